@@ -1,0 +1,11 @@
+pub mod Laws
+pub mod Products
+pub mod Fours
+pub mod Every
+pub mod Rows
+pub mod Readings
+pub mod Widths
+pub mod Scans
+pub mod Rises
+pub mod Counting
+pub mod Theory

@@ -1,0 +1,5 @@
+pub mod Tables
+pub mod Counts
+pub mod Cost
+pub mod Promises
+pub mod Examples
