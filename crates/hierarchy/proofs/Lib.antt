@@ -9,3 +9,4 @@ pub mod Scans
 pub mod Rises
 pub mod Counting
 pub mod Theory
+pub mod Parts

@@ -6,3 +6,4 @@ pub mod Replies
 pub mod Reading
 pub mod Views
 pub mod Promises
+pub mod Parts

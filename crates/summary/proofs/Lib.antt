@@ -1,3 +1,10 @@
 pub mod Order
 pub mod Put
 pub mod Theory
+pub mod Rows
+pub mod Spots
+pub mod Groups
+pub mod Checked
+pub mod Soundness
+pub mod Holdings
+pub mod Rolls

@@ -1,0 +1,6 @@
+pub mod Steps
+pub mod Source
+pub mod Facts
+pub mod Sound
+pub mod Laws
+pub mod Theory
