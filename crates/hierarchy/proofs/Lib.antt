@@ -10,3 +10,4 @@ pub mod Rises
 pub mod Counting
 pub mod Theory
 pub mod Parts
+pub mod Fronts

@@ -8,3 +8,4 @@ pub mod Checked
 pub mod Soundness
 pub mod Holdings
 pub mod Rolls
+pub mod Raised

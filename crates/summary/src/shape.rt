@@ -3,6 +3,7 @@ ghost use Prim.Native.Nat.{_≤_};
 mod check;
 mod edits;
 mod layout;
+mod roll;
 mod search;
 
 // How a table lies in memory, for a number of dimensions: the width of a place.

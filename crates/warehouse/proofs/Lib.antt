@@ -4,3 +4,7 @@ pub mod Facts
 pub mod Sound
 pub mod Laws
 pub mod Theory
+pub mod Places
+pub mod Deeds
+pub mod Inserts
+pub mod Rebuilt

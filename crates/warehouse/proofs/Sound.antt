@@ -23,7 +23,7 @@ use Rattle.summary.specs.Tables.{Table, take-out}
 use Rattle.summary.proofs.Put.{take-out-none, take-out-last, take-out-less, take-out-on, rolled-length}
 use Rattle.summary.proofs.Theory.{table-none, table-more, taken-back}
 use Rattle.warehouse.specs.House.{Kept, House, Limits, Deed, insert, delete, keep, drop-table, ask, empty, with-fact, without-fact, first-full, dropped, source, answer, refusal, after, step, end}
-use Rattle.warehouse.specs.Promises.{Sound, Whole}
+use Rattle.warehouse.specs.Promises.{Sound, Whole, Valid}
 use Rattle.warehouse.proofs.Steps.{step-done, step-refused, cases-refusal, cond-none, levels-there, fact-whole, insert-done, delete-done, keep-done, drop-done}
 use Rattle.warehouse.proofs.Source.{Front, Good, source-all, answer-right}
 use Rattle.warehouse.proofs.Facts.{all-without, without-length}
@@ -161,19 +161,11 @@ step-sound ss lim h d s =
       | inr r ↦ rw (step-refused ss lim h d (r .0) (r .1)) s
     ]
 
--- what holds of every warehouse that is reached: it is sound, its facts are whole, and all is within its room
-pub record Holds (ss : Dims) (lim : Limits) (h : House) : Type 0 where
-  pub sound : Sound ss h
-  pub whole : All (Whole ss) (h .facts)
-  pub few : length (h .facts) ≤ lim .facts
-  pub tables : length (h .kept) ≤ 16
-  pub groups : All (λ k. length (k .cells) ≤ lim .groups) (h .kept)
-
-pub empty-holds : (ss : Dims) (lim : Limits) → Holds ss lim (empty ss)
+pub empty-holds : (ss : Dims) (lim : Limits) → Valid ss lim (empty ss)
 empty-holds ss lim =
     record { sound = empty-sound ss; whole = tt; few = omega arith; tables = omega arith; groups = (omega arith, tt) }
 
-after-holds : (ss : Dims) (lim : Limits) (h : House) (d : Deed) → refusal ss lim h d ≡ None → Holds ss lim h → Holds ss lim (after ss h d)
+after-holds : (ss : Dims) (lim : Limits) (h : House) (d : Deed) → refusal ss lim h d ≡ None → Valid ss lim h → Valid ss lim (after ss h d)
 after-holds ss lim h (insert xs) e s =
     let g = insert-done ss lim h xs e in
     let x = entry-in ss xs in
@@ -223,14 +215,14 @@ after-holds ss lim h (drop-table xs) e s =
     }
 after-holds ss lim h (ask xs n) e s = s
 
-pub step-holds : (ss : Dims) (lim : Limits) (h : House) (d : Deed) → Holds ss lim h → Holds ss lim (step ss lim h d)
+pub step-holds : (ss : Dims) (lim : Limits) (h : House) (d : Deed) → Valid ss lim h → Valid ss lim (step ss lim h d)
 step-holds ss lim h d s =
     elim (cases-refusal (refusal ss lim h d)) [
       | inl e ↦ rw (step-done ss lim h d e) (after-holds ss lim h d e s)
       | inr r ↦ rw (step-refused ss lim h d (r .0) (r .1)) s
     ]
 
-pub end-holds : (ss : Dims) (lim : Limits) (ds : List Deed) (h : House) → Holds ss lim h → Holds ss lim (end ss lim h ds)
+pub end-holds : (ss : Dims) (lim : Limits) (ds : List Deed) (h : House) → Valid ss lim h → Valid ss lim (end ss lim h ds)
 unfolding end
 end-holds ss lim [] h s = s
 end-holds ss lim (d ∷ ds) h s = end-holds ss lim ds (step ss lim h d) (step-holds ss lim h d s)

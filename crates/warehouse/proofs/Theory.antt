@@ -25,14 +25,14 @@ use Rattle.summary.specs.Promises.{None-empty}
 use Rattle.summary.proofs.Put.{put-none, put-length}
 use Rattle.summary.proofs.Theory.{table-more, table-none-empty, taken-back}
 use Rattle.warehouse.specs.House.{Kept, House, Limits, Deed, insert, delete, keep, drop-table, ask, shown, refused, empty, with-fact, without-fact, source, answer, table-length, refusal, after, answered, unless, step, told, end}
-use Rattle.warehouse.specs.Promises.{reached, Sound, Whole, Always-sound, Facts-whole, Totals-right, Always-answered, comes, goes, came, went, Facts-balance, Comes-and-goes, facts-only, but-for-work, Tables-unseen, Refused-untouched, Never-nothing, Within-limits, Warehouse-right}
+use Rattle.warehouse.specs.Promises.{reached, Sound, Whole, Always-sound, Facts-whole, Totals-right, Always-answered, comes, goes, came, went, Facts-balance, Comes-and-goes, facts-only, but-for-work, Tables-unseen, Refused-untouched, Never-nothing, Within-limits, Warehouse-right, Valid}
 use Rattle.warehouse.proofs.Steps.{step-done, step-refused, told-done, told-refused, cases-refusal, levels-there, insert-done, delete-done, ask-done}
 use Rattle.warehouse.proofs.Source.{Good, source-all, source-finer, source-least, source-cost, answer-right}
 use Rattle.warehouse.proofs.Facts.{copies-none, copies-more, copies-here, copies-without, without-here}
 use Rattle.warehouse.proofs.Laws.{insert-refusal, delete-accepted}
-use Rattle.warehouse.proofs.Sound.{Holds, sound-front, sound-good, empty-sound, step-sound, empty-holds, end-holds}
+use Rattle.warehouse.proofs.Sound.{sound-front, sound-good, empty-sound, step-sound, empty-holds, end-holds}
 
-reached-holds : (ss : Dims) (lim : Limits) (ds : List Deed) → Holds ss lim (reached ss lim ds)
+reached-holds : (ss : Dims) (lim : Limits) (ds : List Deed) → Valid ss lim (reached ss lim ds)
 reached-holds ss lim ds = end-holds ss lim ds (empty ss) (empty-holds ss lim)
 
 pub always-sound : Always-sound

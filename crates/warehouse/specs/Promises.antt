@@ -5,6 +5,7 @@ use mathlib.Core.Bool.{Bool, true, false, cond}
 use mathlib.Core.List.{List, [], _∷_, map}
 use Prim.Native.Nat.{ℕ, _+_, _^_, _≤_, _<_}
 use lib.ListN.{length, getD}
+use Rattle.std.specs.shelf.Lists.{All}
 use Rattle.std.specs.declared.option.Option.{Option}
 use Rattle.std.specs.declared.option.Option.the-variants.{Some, None}
 use Rattle.hierarchy.specs.Dimensions.{Dims, Row}
@@ -35,6 +36,14 @@ pub record Whole (ss : Dims) (e : Entry) : Type 0 where
   pub wide : length (e .place) ≡ length ss
   pub small : (j : ℕ) → j < length ss → getD (e .place) j 0 < 2 ^ 32
   pub amount-small : e .amount < 2 ^ 32
+
+-- a warehouse as deeds leave it: it is sound, its facts are whole, and all is within its room
+pub record Valid (ss : Dims) (lim : Limits) (h : House) : Type 0 where
+  pub sound : Sound ss h
+  pub whole : All (Whole ss) (h .facts)
+  pub few : length (h .facts) ≤ lim .facts
+  pub tables : length (h .kept) ≤ 16
+  pub groups : All (λ k. length (k .cells) ≤ lim .groups) (h .kept)
 
 -- every fact that is there is whole
 abbrev pub Facts-whole : Type 0
