@@ -8,3 +8,4 @@ pub mod Places
 pub mod Deeds
 pub mod Inserts
 pub mod Rebuilt
+pub mod Deletes

@@ -7,6 +7,7 @@ use hierarchy::Dimensions;
 use ledger::Book;
 use summary::Shape;
 
+mod deletes;
 mod inserts;
 mod places;
 
