@@ -9,3 +9,5 @@ pub mod Deeds
 pub mod Inserts
 pub mod Rebuilt
 pub mod Deletes
+pub mod Props
+pub mod Door

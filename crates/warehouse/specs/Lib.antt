@@ -3,3 +3,4 @@ pub mod Promises
 pub mod Examples
 pub mod Memory
 pub mod Tables
+pub mod Views
