@@ -11,3 +11,4 @@ pub mod Rebuilt
 pub mod Deletes
 pub mod Props
 pub mod Door
+pub mod Opened

@@ -12,6 +12,7 @@ use Rattle.hierarchy.specs.declared.reply.Refusal.{Refusal}
 use Rattle.hierarchy.specs.declared.reply.Reply.{Reply}
 use Rattle.hierarchy.specs.declared.reply.Reply.the-variants.{Done, Shown, Refused}
 use Rattle.ledger.specs.Book.{Holds, facts-in}
+use Rattle.ledger.specs.Book.{start as start-in-book}
 use Rattle.summary.specs.Memory.{start, table-in, row-over}
 use Rattle.summary.specs.Memory as summary
 use Rattle.summary.specs.Counts.{total}
@@ -28,6 +29,10 @@ wide l = length (sides l)
 
 abbrev pub limits : Layout → Limits
 limits l = record { facts = l .book .room; groups = l .groups }
+
+-- how many numbers the book takes
+abbrev pub book-size : Layout → ℕ
+book-size l = start-in-book (l .book .width) (l .book .room)
 
 -- how many numbers a part takes
 abbrev pub part-size : Layout → ℕ

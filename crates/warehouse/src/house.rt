@@ -5,6 +5,7 @@ ghost use Rattle.warehouse.specs.Memory.{part-size, Memory};
 use super::layout::Layout;
 
 mod deeds;
+mod opens;
 
 // The layout, the book of facts, the kept tables, and a row to make a table in. All that is in memory is one valid warehouse.
 #[derive(Drop)]

@@ -16,4 +16,13 @@ impl Warehouse {
     {
         self.layout.insert(numbers, &mut self.book[..], &mut self.tables[..])
     }
+
+    // One fact equal to this one goes, the newest of several.
+    pub fn delete(&mut self, numbers: &[u64]) -> Reply
+        ensures reply { λ r. ⌜ r ≡ reply-of (told (dims-in (now (self .entry))) (limits-in (now (self .entry))) (house-of (now (self .entry))) (delete (now (numbers .entry)))) ⌝ }
+        ensures house { λ _. ⌜ house-of (now (self .exit)) ≡ step (dims-in (now (self .entry))) (limits-in (now (self .entry))) (house-of (now (self .entry))) (delete (now (numbers .entry))) ⌝ }
+        ensures same { λ _. ⌜ now (self .exit) .layout ≡ now (self .entry) .layout ⌝ }
+    {
+        self.layout.delete(numbers, &mut self.book[..], &mut self.tables[..])
+    }
 }

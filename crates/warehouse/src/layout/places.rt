@@ -8,7 +8,7 @@ ghost use lib.Dec.{leb};
 ghost use Rattle.std.specs.Options.{isSome};
 ghost use Rattle.std.specs.Slices.{found};
 ghost use Rattle.hierarchy.specs.Dimensions.{four};
-ghost use Rattle.warehouse.specs.Memory.{wide, part-size, part};
+ghost use Rattle.warehouse.specs.Memory.{wide, book-size, part-size, part};
 use super::Layout;
 use hierarchy::Dimensions;
 use hierarchy::Levels;
@@ -39,6 +39,13 @@ impl Layout {
         ensures { λ r. ⌜ r ≡ part-size (now (self .entry)) ⌝ ∗ ⌜ r < 2 ^ 36 ⌝ }
     {
         self.shape.start(self.groups)
+    }
+
+    // How many numbers the book takes.
+    pub fn book_length(&self) -> usize
+        ensures { λ r. ⌜ r ≡ book-size (now (self .entry)) ⌝ }
+    {
+        self.book.length()
     }
 
     // How many numbers all tables take.
