@@ -29,3 +29,10 @@ pub door-deed : {Z : Type 0} (l : Layout) (d : Deed) (r : Reply) (book tables : 
 door-deed l d r book tables bs ts bs₁ ts₁ a b c e f g does =
     owned-deed l d r (vec-items book) (vec-items tables) (vec-items (refilled book bs₁)) (vec-items (refilled tables ts₁)) bs ts bs₁ ts₁ a b
     (refilled-is book bs₁ (f ∙ c)) (refilled-is tables ts₁ (g ∙ e)) does
+
+-- and where the book is only read
+pub door-tables : {Z : Type 0} (l : Layout) (d : Deed) (r : Reply) (book tables : Vec ℕ Z) (bs ts ts₁ : List ℕ) → bs ≡ vec-items book → ts ≡ vec-items tables
+    → length ts ≡ vec-len tables → length ts₁ ≡ length ts → Does l d r bs ts bs ts₁
+    → Does l d r (vec-items book) (vec-items tables) (vec-items book) (vec-items (refilled tables ts₁))
+door-tables l d r book tables bs ts ts₁ a b e g does =
+    owned-deed l d r (vec-items book) (vec-items tables) (vec-items book) (vec-items (refilled tables ts₁)) bs ts bs ts₁ a b (sym a) (refilled-is tables ts₁ (g ∙ e)) does

@@ -12,3 +12,5 @@ pub mod Deletes
 pub mod Props
 pub mod Door
 pub mod Opened
+pub mod Scans
+pub mod Moves

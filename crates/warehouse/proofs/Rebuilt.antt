@@ -6,21 +6,25 @@ use native.Mathlib.Nat.{mul-le-mul-left}
 use native.Mathlib.Omega.{arith}
 use lib.ListN.{length, getD}
 use Rattle.std.specs.declared.option.Option.the-variants.{Some, None}
+use Rattle.hierarchy.specs.Dimensions.{Dims, Row}
 use Rattle.hierarchy.specs.Facts.{Entry}
+use Rattle.hierarchy.specs.Reading.{levels-refusal, levels-in}
 use Rattle.hierarchy.specs.declared.reply.Refusal.{Refusal}
-use Rattle.hierarchy.specs.declared.reply.Reply.{Reply}
-use Rattle.hierarchy.specs.declared.reply.Reply.the-variants.{Done, Refused}
+use Rattle.hierarchy.specs.declared.reply.Reply.the-variants.{Done, Shown, Refused}
+use Rattle.hierarchy.proofs.Laws.{levels-length}
 use Rattle.ledger.specs.Book.{Holds, facts-in}
 use Rattle.summary.specs.Counts.{total}
 use Rattle.summary.specs.Memory as summary
-use Rattle.warehouse.specs.House.{Kept, House, Deed, done, refusal, after, answered, step}
+use Rattle.summary.specs.Memory.{start, row-over}
+use Rattle.summary.specs.Tables.{rolled}
+use Rattle.warehouse.specs.House.{Kept, House, Deed, ask, Told, done, source, table-length, refusal, after, answered, step, told}
 use Rattle.warehouse.specs.Promises.{Valid}
-use Rattle.warehouse.specs.Memory.{sides, wide, limits, part-size, part, house-in, Memory, reply-of, Does}
+use Rattle.warehouse.specs.Memory.{sides, wide, limits, part-size, part, house-in, Memory, reply-of, row-after, Does}
 use Rattle.warehouse.specs.Tables.{kept-table, kept-tables, Ready, Left}
 use Rattle.warehouse.specs.declared.layout.Layout.{Layout}
-use Rattle.warehouse.proofs.Steps.{step-done, step-refused, told-done, told-refused}
+use Rattle.warehouse.proofs.Steps.{step-done, step-refused, told-done, told-refused, levels-there}
 use Rattle.warehouse.proofs.Sound.{step-holds}
-use Rattle.warehouse.proofs.Laws.{cells-bounded}
+use Rattle.warehouse.proofs.Laws.{ask-accepted, cells-bounded}
 use Rattle.warehouse.proofs.Places.{tables-length, table-at}
 
 -- the tables of a warehouse are such as a deed may find
@@ -92,3 +96,36 @@ does-refused l d x book tables m e =
       memory = m;
       untouched = λ y q. (refl, refl);
     }
+
+-- a question that is refused
+pub asked-refused : (l : Layout) (xs : Row) (n : ℕ) (x : Refusal) (book tables out : List ℕ)
+    → refusal (sides l) (limits l) (house-in l book tables) (ask xs n) ≡ Some x
+    → let t = told (sides l) (limits l) (house-in l book tables) (ask xs n) in
+    (Refused x ≡ reply-of t) × (out ≡ row-after (levels-in (sides l) xs) t out)
+asked-refused l xs n x book tables out e =
+    let q = told-refused (sides l) (limits l) (house-in l book tables) (ask xs n) x e in
+    (sym (ap reply-of q), sym (ap (λ (t : Told). row-after (levels-in (sides l) xs) t out) q))
+
+row-shown : (w : ℕ) (ss : Dims) (ls ms : Row) (k k₁ : Kept) (out : List ℕ) → length ls ≡ w → ms ≡ ls → k ≡ k₁
+    → row-over w ms (rolled ss (k .levels) ms (k .cells)) out ≡ row-over (length ls) ls (rolled ss (k₁ .levels) ls (k₁ .cells)) out
+row-shown w ss ls ms k k₁ out a b c = rw (a, b, c)
+
+-- and one that is answered from the i-th table
+pub asked-shown : (l : Layout) (xs ms : Row) (i n : ℕ) (book tables out out₁ : List ℕ) → levels-refusal (sides l) xs ≡ None
+    → ms ≡ levels-in (sides l) xs → kept-table l i tables ≡ source (sides l) ms (kept-tables l tables)
+    → start (wide l) (length (kept-table l i tables .cells)) ≤ n
+    → out₁ ≡ row-over (wide l) ms (rolled (sides l) (kept-table l i tables .levels) ms (kept-table l i tables .cells)) out
+    → let t = told (sides l) (limits l) (house-in l book tables) (ask xs n) in
+    (Shown (length (kept-table l i tables .cells)) ≡ reply-of t) × (out₁ ≡ row-after (levels-in (sides l) xs) t out)
+asked-shown l xs ms i n book tables out out₁ there e is room written =
+    let ss = sides l in
+    let ls = levels-in ss xs in
+    let k = kept-table l i tables in
+    let k₁ = source ss ls (kept-tables l tables) in
+    let h = house-in l book tables in
+    let same-kept : k ≡ k₁ = is ∙ ap (λ (ns : Row). source ss ns (kept-tables l tables)) e in
+    let fits : table-length (wide l) (length (k₁ .cells)) ≤ n = rw (← same-kept) room in
+    let q = told-done ss (limits l) h (ask xs n) (ask-accepted ss (limits l) h xs n there fits) in
+    let long = levels-length ss ls (levels-there ss xs there) in
+    (ap (λ (x : Kept). Shown (length (x .cells))) same-kept ∙ sym (ap reply-of q),
+     written ∙ (row-shown (wide l) ss ls ms k k₁ out long e same-kept ∙ sym (ap (λ (t : Told). row-after ls t out) q)))

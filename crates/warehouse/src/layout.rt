@@ -7,9 +7,11 @@ use hierarchy::Dimensions;
 use ledger::Book;
 use summary::Shape;
 
+mod asks;
 mod deletes;
 mod inserts;
 mod places;
+mod tables;
 
 // The dimensions, how tables and the book lie in memory, and how many groups a table may have.
 #[derive(Clone, Copy)]

@@ -1,8 +1,9 @@
 // The deeds.
 ghost use mathlib.Core.Path.{_≡_};
-ghost use Rattle.std.specs.Of.Vec.{vec-items};
-ghost use Rattle.warehouse.specs.House.{insert, delete, step, told};
-ghost use Rattle.warehouse.specs.Memory.{reply-of};
+ghost use lib.ListN.{length};
+ghost use Rattle.hierarchy.specs.Reading.{levels-in};
+ghost use Rattle.warehouse.specs.House.{insert, delete, keep, drop-table, ask, step, told};
+ghost use Rattle.warehouse.specs.Memory.{reply-of, row-after};
 ghost use Rattle.warehouse.specs.Views.{dims-in, limits-in, house-of};
 use super::Warehouse;
 use hierarchy::Reply;
@@ -24,5 +25,31 @@ impl Warehouse {
         ensures same { λ _. ⌜ now (self .exit) .layout ≡ now (self .entry) .layout ⌝ }
     {
         self.layout.delete(numbers, &mut self.book[..], &mut self.tables[..])
+    }
+
+    // One table more, at these levels, made of the smallest that is kept and no coarser.
+    pub fn keep(&mut self, numbers: &[u64]) -> Reply
+        ensures reply { λ r. ⌜ r ≡ reply-of (told (dims-in (now (self .entry))) (limits-in (now (self .entry))) (house-of (now (self .entry))) (keep (now (numbers .entry)))) ⌝ }
+        ensures house { λ _. ⌜ house-of (now (self .exit)) ≡ step (dims-in (now (self .entry))) (limits-in (now (self .entry))) (house-of (now (self .entry))) (keep (now (numbers .entry))) ⌝ }
+        ensures same { λ _. ⌜ now (self .exit) .layout ≡ now (self .entry) .layout ⌝ }
+    {
+        self.layout.keep(numbers, &self.book[..], &mut self.tables[..], &mut self.row[..])
+    }
+
+    // The table at these levels is kept no more.
+    pub fn drop_table(&mut self, numbers: &[u64]) -> Reply
+        ensures reply { λ r. ⌜ r ≡ reply-of (told (dims-in (now (self .entry))) (limits-in (now (self .entry))) (house-of (now (self .entry))) (drop-table (now (numbers .entry)))) ⌝ }
+        ensures house { λ _. ⌜ house-of (now (self .exit)) ≡ step (dims-in (now (self .entry))) (limits-in (now (self .entry))) (house-of (now (self .entry))) (drop-table (now (numbers .entry))) ⌝ }
+        ensures same { λ _. ⌜ now (self .exit) .layout ≡ now (self .entry) .layout ⌝ }
+    {
+        self.layout.drop_table(numbers, &self.book[..], &mut self.tables[..])
+    }
+
+    // The totals at these levels, into a lent row, and how many groups were looked at.
+    pub fn ask(&self, numbers: &[u64], out: &mut [u64]) -> Reply
+        ensures reply { λ r. ⌜ r ≡ reply-of (told (dims-in (now (self .entry))) (limits-in (now (self .entry))) (house-of (now (self .entry))) (ask (now (numbers .entry)) (length (now (out .entry))))) ⌝ }
+        ensures row { λ _. ⌜ now (out .exit) ≡ row-after (levels-in (dims-in (now (self .entry))) (now (numbers .entry))) (told (dims-in (now (self .entry))) (limits-in (now (self .entry))) (house-of (now (self .entry))) (ask (now (numbers .entry)) (length (now (out .entry))))) (now (out .entry)) ⌝ }
+    {
+        self.layout.ask(numbers, &self.book[..], &self.tables[..], out)
     }
 }
