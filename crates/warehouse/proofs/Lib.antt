@@ -14,3 +14,4 @@ pub mod Door
 pub mod Opened
 pub mod Scans
 pub mod Moves
+pub mod Asks

@@ -1,12 +1,16 @@
 // The deeds.
 ghost use mathlib.Core.Path.{_≡_};
+ghost use Prim.Native.Nat.{ℕ};
 ghost use lib.ListN.{length};
+ghost use Rattle.summary.specs.Memory.{table-in, Whole};
+ghost use Rattle.summary.specs.Tables.{Table};
 ghost use Rattle.hierarchy.specs.Reading.{levels-in};
-ghost use Rattle.warehouse.specs.House.{insert, delete, keep, drop-table, ask, step, told};
+ghost use Rattle.warehouse.specs.House.{insert, delete, keep, drop-table, ask, shown, step, told};
 ghost use Rattle.warehouse.specs.Memory.{reply-of, row-after};
 ghost use Rattle.warehouse.specs.Views.{dims-in, limits-in, house-of};
 use super::Warehouse;
 use hierarchy::Reply;
+use summary::Shape;
 
 impl Warehouse {
     // One fact more: the numbers of its place, one a dimension, and its amount.
@@ -49,7 +53,15 @@ impl Warehouse {
     pub fn ask(&self, numbers: &[u64], out: &mut [u64]) -> Reply
         ensures reply { λ r. ⌜ r ≡ reply-of (told (dims-in (now (self .entry))) (limits-in (now (self .entry))) (house-of (now (self .entry))) (ask (now (numbers .entry)) (length (now (out .entry))))) ⌝ }
         ensures row { λ _. ⌜ now (out .exit) ≡ row-after (levels-in (dims-in (now (self .entry))) (now (numbers .entry))) (told (dims-in (now (self .entry))) (limits-in (now (self .entry))) (house-of (now (self .entry))) (ask (now (numbers .entry)) (length (now (out .entry))))) (now (out .entry)) ⌝ }
+        ensures shown { λ _. ⌜ ((t : Table) (n : ℕ) → told (dims-in (now (self .entry))) (limits-in (now (self .entry))) (house-of (now (self .entry))) (ask (now (numbers .entry)) (length (now (out .entry)))) ≡ shown t n → (table-in (length (dims-in (now (self .entry)))) (now (out .exit)) ≡ t) × Whole (length (dims-in (now (self .entry)))) (now (out .exit))) ⌝ }
     {
         self.layout.ask(numbers, &self.book[..], &self.tables[..], out)
+    }
+
+    // How its tables lie in memory.
+    pub fn shape(&self) -> Shape
+        ensures { λ r. ⌜ r .width ≡ length (dims-in (now (self .entry))) ⌝ }
+    {
+        self.layout.shape()
     }
 }

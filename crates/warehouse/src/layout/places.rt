@@ -34,6 +34,13 @@ impl Layout {
         Some(Layout { dims, shape, book, groups })
     }
 
+    // How a table lies in memory.
+    pub fn shape(&self) -> Shape
+        ensures { λ r. ⌜ r .width ≡ wide (now (self .entry)) ⌝ }
+    {
+        self.shape
+    }
+
     // How many numbers the part of a table takes.
     pub fn part_length(&self) -> usize
         ensures { λ r. ⌜ r ≡ part-size (now (self .entry)) ⌝ ∗ ⌜ r < 2 ^ 36 ⌝ }
