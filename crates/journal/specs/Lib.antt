@@ -5,3 +5,4 @@ pub mod Text
 pub mod Days
 pub mod Promises
 pub mod Examples
+pub mod Room
