@@ -34,12 +34,12 @@ sumBy-none f [] h = refl
 sumBy-none f (x ∷ xs) h = rw (sumBy-cons f x xs, h x, sumBy-none f xs h)
 
 -- ---- what one question costs
-cost-none : (ss : Dims) (sz : Row → ℕ) (l : Row) → cost ss sz l [] ≡ sz (finest ss)
+pub cost-none : (ss : Dims) (sz : Row → ℕ) (l : Row) → cost ss sz l [] ≡ sz (finest ss)
 unfolding cost
 cost-none ss sz l = refl
 
 -- a table more is read where it is no coarser and smaller
-cost-cons : (ss : Dims) (sz : Row → ℕ) (l k : Row) (ks : List Row)
+pub cost-cons : (ss : Dims) (sz : Row → ℕ) (l k : Row) (ks : List Row)
     → cost ss sz l (k ∷ ks) ≡ cond (no-coarser ss k l) (min (sz k) (cost ss sz l ks)) (cost ss sz l ks)
 unfolding cost
 cost-cons ss sz l k ks = refl
@@ -48,7 +48,7 @@ cost-more : (ss : Dims) (sz : Row → ℕ) (l k : Row) (ks : List Row) → cost 
 cost-more ss sz l k ks =
     rw (cost-cons ss sz l k ks) (cond-both (no-coarser ss k l) _ _ (λ c. c ≤ cost ss sz l ks) (λ e. omega arith) (λ e. omega arith))
 
-cost-at-most : (ss : Dims) (sz : Row → ℕ) (l : Row) (ks : List Row) → cost ss sz l ks ≤ sz (finest ss)
+pub cost-at-most : (ss : Dims) (sz : Row → ℕ) (l : Row) (ks : List Row) → cost ss sz l ks ≤ sz (finest ss)
 cost-at-most ss sz l [] = rw (cost-none ss sz l) (omega arith)
 cost-at-most ss sz l (k ∷ ks) = omega (arith, cost-more ss sz l k ks, cost-at-most ss sz l ks)
 
