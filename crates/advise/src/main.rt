@@ -51,7 +51,11 @@ fn run(rt: &LibcRuntime) -> Result<(), AnyError> {
     let width = sides.first().copied().unwrap_or(0);
     let rest = numbers(rt.alloc(), &bytes[4 * count_sides(bytes.as_slice())..])?;
     let n = rest.first().copied().unwrap_or(0);
-    let facts = if rest.is_empty() { rest.as_slice() } else { &rest[1..] };
+    let facts = if rest.is_empty() {
+        rest.as_slice()
+    } else {
+        &rest[1..]
+    };
     match choose(rt.alloc(), sides.as_slice(), n, facts) {
         Ok(turns) => {
             for turn in turns.iter() {
@@ -61,7 +65,11 @@ fn run(rt: &LibcRuntime) -> Result<(), AnyError> {
         Err(Fault::Refused(refusal)) => println!(rt, "{refusal}")?,
         Err(Fault::NoMemory) => return Err("out of memory".into()),
     }
-    if bytes.len() % 4 == 0 { Ok(()) } else { Err("the file ends within a number".into()) }
+    if bytes.len() % 4 == 0 {
+        Ok(())
+    } else {
+        Err("the file ends within a number".into())
+    }
 }
 
 fn main(rt: LibcRuntime) -> Result<(), AnyError> {

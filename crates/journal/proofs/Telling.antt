@@ -107,9 +107,9 @@ turned house house₁ w m bs rest kind count xs ys t₀ t₁ all reads long numb
     let d : deed-of m kind ys ≡ deed-of 389 kind (take count xs) = ap (λ (k : ℕ). deed-of k kind ys) long ∙ ap (λ (zs : Row). deed-of 389 kind zs) numbers in
     let read = deeds-read w 389 bs kind count xs rest reads in
     let more = told-on (dims-in house) (limits-in house) (house-of house) (house-of house₁) (deed-of 389 kind (take count xs)) (deeds-in w 389 rest) t₀ t₁ all
-        (text ∙ ap (λ (e : Deed). t₀ ++ told-text (told (dims-in house) (limits-in house) (house-of house) e)) d)
-        (after ∙ ap (λ (e : Deed). step (dims-in house) (limits-in house) (house-of house) e) d)
-        (ap (λ (ds : List Deed). t₀ ++ replies (dims-in house) (limits-in house) (house-of house) ds) (sym read) ∙ before) in
+    (text ∙ ap (λ (e : Deed). t₀ ++ told-text (told (dims-in house) (limits-in house) (house-of house) e)) d)
+    (after ∙ ap (λ (e : Deed). step (dims-in house) (limits-in house) (house-of house) e) d)
+    (ap (λ (ds : List Deed). t₀ ++ replies (dims-in house) (limits-in house) (house-of house) ds) (sym read) ∙ before) in
     ap (λ (l : Layout). t₁ ++ replies (sides l) (limits l) (house-of house₁) (deeds-in w 389 rest)) same ∙ more
 
 -- the end of the run: no deed is left
@@ -128,7 +128,7 @@ run-whole w (b ∷ bs) none = ne-eqb (length (b ∷ bs)) 0 (λ e. omega arith) �
 pub begun : (house : Warehouse) (layout : Layout) (dims : Dimensions) (w : ℕ) (bs : Bytes) (t : List ℕ) → house .layout ≡ layout
     → house-of house ≡ empty (sides layout) → layout .dims ≡ dims → layout .book .room ≡ 256 → layout .groups ≡ 64 → w ≡ length (dims-of dims)
     → t ++ replies (dims-in house) (limits-in house) (house-of house) (deeds-in w 389 bs)
-        ≡ t ++ replies (dims-of dims) replay-limits (empty (dims-of dims)) (deeds-in (length (dims-of dims)) replay-row bs)
+    ≡ t ++ replies (dims-of dims) replay-limits (empty (dims-of dims)) (deeds-in (length (dims-of dims)) replay-row bs)
 begun house layout dims w bs t a b c d e f =
     let ss : dims-in house ≡ dims-of dims = ap sides a ∙ ap dims-of c in
     let lim : limits-in house ≡ replay-limits = ap limits a ∙ limits-are (layout .book .room) (layout .groups) d e in
@@ -149,7 +149,8 @@ day-done bs part row text whole dims a none b c t w =
     let ss : dims-of dims ≡ read-dims (sides-of bs) = b ∙ ap read-dims a in
     let n : dims-refusal (sides-of bs) ≡ None = ap dims-refusal (sym a) ∙ none in
     let x = t ∙ (ap (λ (zs : Dims). replies zs replay-limits (empty zs) (deeds-in (length zs) replay-row part)) ss
-        ∙ ap (λ (ys : Bytes). replies (read-dims (sides-of bs)) replay-limits (empty (read-dims (sides-of bs))) (deeds-in (length (read-dims (sides-of bs))) replay-row ys)) c) in
-    let y = w ∙ (ap (λ (zs : Dims). is-whole (length zs) part) ss ∙ ap (λ (ys : Bytes). is-whole (length (read-dims (sides-of bs))) ys) c) in
-    (x ∙ sym (ap (λ (o : Option Refusal). text-or-refusal o (replies (read-dims (sides-of bs)) replay-limits (empty (read-dims (sides-of bs))) (day-deeds replay-row bs))) n)
-    , y ∙ sym (ap (λ (o : Option Refusal). whole-or-refused o (is-whole (length (read-dims (sides-of bs))) (behind-sides bs))) n))
+    ∙ ap (λ (ys : Bytes). replies (read-dims (sides-of bs)) replay-limits (empty (read-dims (sides-of bs))) (deeds-in (length (read-dims (sides-of bs))) replay-row ys)) c) in
+    let y = w ∙ (ap (λ (zs : Dims). is-whole (length zs) part) ss ∙ ap (λ (ys : Bytes). is-whole (length (read-dims (sides-of bs))) ys) c) in (
+      x ∙ sym (ap (λ (o : Option Refusal). text-or-refusal o (replies (read-dims (sides-of bs)) replay-limits (empty (read-dims (sides-of bs))) (day-deeds replay-row bs))) n),
+      y ∙ sym (ap (λ (o : Option Refusal). whole-or-refused o (is-whole (length (read-dims (sides-of bs))) (behind-sides bs))) n),
+    )

@@ -50,7 +50,7 @@ Broken-off =
     (w n : ℕ) (ds : List Deed) (rest : Bytes) → All-writable w n ds → is-deed w rest ≡ false → 0 < length rest
     → (deeds-in w n (deeds-out ds ++ rest) ≡ ds) × (is-whole w (deeds-out ds ++ rest) ≡ false)
 
--- nothing that is read is lost: a whole file is its deeds, written
+-- nothing that is read is lost: bytes that are whole deeds are these deeds, written
 abbrev pub Written-back : Type 0
 Written-back =
     (w n : ℕ) (bs : Bytes) → ((i : ℕ) → i < length bs → getD bs i 0 < 256) → is-whole w bs ≡ true → deeds-out (deeds-in w n bs) ≡ bs

@@ -28,6 +28,7 @@ use warehouse::Warehouse;
 
 // Room for so many facts, and so many groups a table.
 pub const FACTS: usize = 256;
+
 pub const GROUPS: usize = 64;
 
 // A row that holds any table of so many groups: four levels, the count, and six numbers a group.
@@ -70,14 +71,26 @@ fn run(heap: Global, dims: Dimensions, bytes: &[u8], text: &mut String) -> Resul
     let mut out = vec![in heap; 0; ROW]?;
     let mut rest = bytes;
     while let Some(step) = next_deed(width, rest) {
-        act(&mut house, step.kind, &step.numbers[0..step.count], &mut out[..], text)?;
+        act(
+            &mut house,
+            step.kind,
+            &step.numbers[0..step.count],
+            &mut out[..],
+            text,
+        )?;
         rest = step.rest;
     }
     Ok(rest.is_empty())
 }
 
 // Does one deed and tells of it.
-fn act(house: &mut Warehouse, kind: Kind, numbers: &[u64], out: &mut [u64], text: &mut String) -> Result<(), NoMemory>
+fn act(
+    house: &mut Warehouse,
+    kind: Kind,
+    numbers: &[u64],
+    out: &mut [u64],
+    text: &mut String,
+) -> Result<(), NoMemory>
     ensures { λ r. ⌜ made r (λ _. (string-bytes (now (text .exit)) ≡ string-bytes (now (text .entry)) ++ told-text (told (dims-in (now (house .entry))) (limits-in (now (house .entry))) (house-of (now (house .entry))) (deed-of (length (now (out .entry))) kind (now (numbers .entry))))) × (house-of (now (house .exit)) ≡ step (dims-in (now (house .entry))) (limits-in (now (house .entry))) (house-of (now (house .entry))) (deed-of (length (now (out .entry))) kind (now (numbers .entry)))) × (now (house .exit) .layout ≡ now (house .entry) .layout)) ⌝ }
 {
     match kind {
@@ -91,7 +104,12 @@ fn act(house: &mut Warehouse, kind: Kind, numbers: &[u64], out: &mut [u64], text
 }
 
 // Asks, and tells the groups and the work, or why there are none.
-fn answer(house: &Warehouse, numbers: &[u64], out: &mut [u64], text: &mut String) -> Result<(), NoMemory>
+fn answer(
+    house: &Warehouse,
+    numbers: &[u64],
+    out: &mut [u64],
+    text: &mut String,
+) -> Result<(), NoMemory>
     ensures { λ r. ⌜ made r (λ _. string-bytes (now (text .exit)) ≡ string-bytes (now (text .entry)) ++ told-text (told (dims-in (now (house .entry))) (limits-in (now (house .entry))) (house-of (now (house .entry))) (ask (now (numbers .entry)) (length (now (out .entry)))))) ⌝ }
 {
     let reply = house.ask(numbers, out);

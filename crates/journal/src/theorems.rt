@@ -24,7 +24,7 @@ pub fn broken_off() -> u8
     0
 }
 
-/// A whole file is its deeds written out, so that no two files are the same day.
+/// Bytes of whole deeds are these deeds written out, so that nothing that is read is lost.
 pub fn written_back() -> u8
     ensures { λ _. ⌜ Written-back ⌝ }
 {

@@ -20,7 +20,11 @@ fn run(rt: &LibcRuntime) -> Result<(), AnyError> {
     match journal::replay(rt.alloc(), bytes.as_slice()) {
         Ok(day) => {
             rt.stdout().write_all(day.text.as_bytes())?;
-            if day.whole { Ok(()) } else { Err("the file goes on with a byte that is no deed, or ends within a deed".into()) }
+            if day.whole {
+                Ok(())
+            } else {
+                Err("the file goes on with a byte that is no deed, or ends within a deed".into())
+            }
         }
         Err(_) => Err("out of memory".into()),
     }

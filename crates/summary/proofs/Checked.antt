@@ -1,17 +1,19 @@
--- Groups that are all good are in order, and none is empty. Assumes nothing.
+-- Groups that are all good are in order, none is empty, and so many of them fit in 64 bits together. Assumes nothing.
 use mathlib.Core.Path.{_≡_, subst}
-use mathlib.Core.Bool.{true, false, _&&_, not}
-use mathlib.Core.List.{List}
+use mathlib.Core.Bool.{true, false, _&&_, _||_, not}
+use mathlib.Core.List.{List, [], _∷_}
 use mathlib.Core.Logic.{inl, inr}
-use Prim.Native.Nat.{ℕ, zero, suc, _-_, _<_}
+use Prim.Native.Nat.{ℕ, zero, suc, _-_, _*_, _^_, _≤_, _<_}
 use native.Mathlib.Omega.{arith}
-use lib.Dec.{eqb, ltb}
+use lib.Dec.{eqb, ltb, leb}
 use lib.ListN.{length, getD}
 use Rattle.std.proofs.shelf.Lists.{getD-default}
-use Rattle.std.proofs.shelf.Tests.{or-parts, lt-ltb, not-false, eqb-false, cases-lt}
+use Rattle.std.proofs.shelf.Tests.{or-parts, lt-ltb, not-false, eqb-false, leb-false, cases-lt}
 use Rattle.summary.specs.Tables.{Table, before}
+use Rattle.summary.specs.Counts.{total}
 use Rattle.summary.specs.Promises.{In-order, None-empty}
 use Rattle.summary.specs.Memory.{table-in, none, Whole, Sound, out-of-bounds, All-good}
+use Rattle.summary.specs.Entry.{most-groups}
 use Rattle.summary.proofs.Order.{before-trans}
 
 -- each comes after the one before: so it comes after all before
@@ -46,3 +48,23 @@ good-none-empty t h i g l =
 
 pub good-sound : (w : ℕ) (xs : List ℕ) → Whole w xs → All-good (table-in w xs) → Sound w xs
 good-sound w xs a h = record { whole = a; ordered = good-in-order _ h; filled = good-none-empty _ h }
+
+good-bounds : (t : Table) → All-good t → (i : ℕ) → i < length t → (getD t i none .measure .count < 2 ^ 32) × (getD t i none .measure .sum < 2 ^ 50)
+good-bounds t h i l =
+    let m = getD t i none .measure in
+    let a = or-parts (out-of-bounds m) (ltb 0 i && not (before (getD t (i - 1) none .place) (getD t i none .place))) (h i l) in
+    let b = or-parts (eqb (m .count) 0) (leb (2 ^ 32) (m .count) || leb (2 ^ 50) (m .sum)) (a .0) in
+    let d = or-parts (leb (2 ^ 32) (m .count)) (leb (2 ^ 50) (m .sum)) (b .1) in
+    (leb-false (2 ^ 32) (m .count) (d .0), leb-false (2 ^ 50) (m .sum) (d .1))
+
+bounded-total : (t : Table) → ((i : ℕ) → i < length t → (getD t i none .measure .count < 2 ^ 32) × (getD t i none .measure .sum < 2 ^ 50))
+    → (total t .count ≤ 2 ^ 32 * length t) × (total t .sum ≤ 2 ^ 50 * length t)
+unfolding total
+bounded-total [] h = (omega arith, omega arith)
+bounded-total (g ∷ gs) h =
+    let first = h 0 (omega arith) in
+    let r = bounded-total gs (λ i l. h (suc i) (omega arith)) in
+    (omega (arith, first .0, r .0), omega (arith, first .1, r .1))
+
+pub good-total : (t : Table) → All-good t → length t ≤ most-groups → (total t .count ≤ 2 ^ 44) × (total t .sum ≤ 2 ^ 62)
+good-total t h l = let r = bounded-total t (good-bounds t h) in (omega (arith, r .0), omega (arith, r .1))

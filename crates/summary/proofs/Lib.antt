@@ -9,3 +9,5 @@ pub mod Soundness
 pub mod Holdings
 pub mod Rolls
 pub mod Raised
+pub mod Refusals
+pub mod Reaches

@@ -4,3 +4,4 @@ pub mod Cost
 pub mod Promises
 pub mod Memory
 pub mod Examples
+pub mod Entry

@@ -1,4 +1,5 @@
 // Tables of totals: their theory, and tables in lent memory.
+pub mod entry;
 pub mod group;
 pub mod shape;
 pub mod theorems;

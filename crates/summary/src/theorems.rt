@@ -1,6 +1,7 @@
 //! The promises of tables of totals: each function's contract is one of them, so that the crate is proved only with its proof.
 
 ghost use Rattle.summary.specs.Promises.{Rolled-right, Rolled-twice, Any-order, Adds-up, Coarser-smaller, Taken-back};
+ghost use Rattle.summary.specs.Entry.{Shown-right};
 ghost use Rattle.summary.specs.Examples.{Worked};
 
 /// A coarser table made of a finer one is the table of the facts.
@@ -41,6 +42,13 @@ pub fn coarser_smaller() -> u8
 /// Taking out undoes putting in, and a fact goes from the table as from the facts.
 pub fn taken_back() -> u8
     ensures { λ _. ⌜ Taken-back ⌝ }
+{
+    0
+}
+
+/// A lent table of facts that is rolled up and not refused is shown as the table of these facts.
+pub fn shown_right() -> u8
+    ensures { λ _. ⌜ Shown-right ⌝ }
 {
     0
 }

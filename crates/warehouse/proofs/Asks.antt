@@ -86,7 +86,7 @@ pub ask-owned : (l : Layout) (book tables bs ts : List ℕ) (xs : Row) (out out�
     → (r ≡ reply-of (told (sides l) (limits l) (house-in l book tables) (ask xs (length out))))
     × (out₁ ≡ row-after (levels-in (sides l) xs) (told (sides l) (limits l) (house-in l book tables) (ask xs (length out))) out)
     × ((t : Table) (n : ℕ) → told (sides l) (limits l) (house-in l book tables) (ask xs (length out)) ≡ shown t n
-        → (table-in (wide l) out₁ ≡ t) × Whole (wide l) out₁)
+    → (table-in (wide l) out₁ ≡ t) × Whole (wide l) out₁)
 ask-owned l book tables bs ts xs out out₁ r a b m reply row =
     let e : house-in l bs ts ≡ house-in l book tables = ap (λ (ys : List ℕ). house-in l ys ts) a ∙ ap (λ (ys : List ℕ). house-in l book ys) b in
     let reply₁ = reply ∙ ap (λ (h : House). reply-of (told (sides l) (limits l) h (ask xs (length out)))) e in

@@ -37,9 +37,10 @@ put-new p m (g ∷ gs) h = go (before p (g .place)) refl (put-new p m gs (or-par
   where
     other : same p (g .place) ≡ false
     other = or-parts (same p (g .place)) (held p gs) h .0
+
     go : (v : Bool) → before p (g .place) ≡ v → length (put p m gs) ≡ length gs + 1
         → length (cond (same p (g .place)) (record { place = g .place; measure = record { count = g .measure .count + m .count; sum = g .measure .sum + m .sum } } ∷ gs)
-            (cond (before p (g .place)) (record { place = p; measure = m } ∷ g ∷ gs) (g ∷ put p m gs))) ≡ suc (length gs) + 1
+        (cond (before p (g .place)) (record { place = p; measure = m } ∷ g ∷ gs) (g ∷ put p m gs))) ≡ suc (length gs) + 1
     go true e more = rw (other, e) (omega arith)
     go false e more = rw (other, e) (omega arith)
 
@@ -149,10 +150,11 @@ module _ (ss : Dims) (v : ℕ) (q : v ≡ length ss) (few : length ss ≤ 4) (e 
   pub take-done : (p : Row) → take (length ss) p ≡ place-at ss (take (length ss) xs) (e .place) → (ys : List ℕ) (r : Bool)
       → r ≡ held (take v p) (table-in v xs) → ys ≡ cond r (holding v (take-out (take v p) (e .amount) (table-in v xs)) xs) xs → summary.Sound v ys
       → (kept-in (length ss) ys ≡ without-fact ss e (kept-in (length ss) xs)) × summary.Sound (length ss) ys
-  take-done p here ys r told after sound =
-      (take-kept ss (length ss) e xs few refl s long p here ys r (subst (λ (n : ℕ). r ≡ held (take n p) (table-in n xs)) q told)
-          (subst (λ (n : ℕ). ys ≡ cond r (holding n (take-out (take n p) (e .amount) (table-in n xs)) xs) xs) q after)
-      , subst (λ (n : ℕ). summary.Sound n ys) q sound)
+  take-done p here ys r told after sound = (
+    take-kept ss (length ss) e xs few refl s long p here ys r (subst (λ (n : ℕ). r ≡ held (take n p) (table-in n xs)) q told)
+        (subst (λ (n : ℕ). ys ≡ cond r (holding n (take-out (take n p) (e .amount) (table-in n xs)) xs) xs) q after),
+    subst (λ (n : ℕ). summary.Sound n ys) q sound,
+  )
 
 -- the place that the code makes of a fact's numbers, at the levels of a part
 pub part-place : (ss : Dims) (xs ps as-four p : List ℕ) → length ss ≤ 4 → length ss ≤ length xs → length ss ≤ length ps → as-four ≡ four (take (length ss) xs)

@@ -77,7 +77,7 @@ module _ (l : Layout) (book tables : List ℕ) (m : Memory l book tables) where
       let at = table-at (wide l) (part-size l) 0 tables k (some-kept l book tables m) in
       let right = m .valid .sound .right 0 k (m .valid .sound .some) in
       let cells : table-in (wide l) (part (part-size l) 0 tables) ≡ table (sides l) (take (wide l) (part (part-size l) 0 tables)) (facts-in (wide l) book) =
-          ap (λ (d : Kept). d .cells) (sym at) ∙ right ∙ ap (λ (d : Kept). table (sides l) (d .levels) (facts-in (wide l) book)) at in
+      ap (λ (d : Kept). d .cells) (sym at) ∙ right ∙ ap (λ (d : Kept). table (sides l) (d .levels) (facts-in (wide l) book)) at in
       let f₁ = subst (λ (n : ℕ). Found (take n p) (table-in n q) r) w found in
       let none = found-none (take (wide l) p) (table-in (wide l) q) r f₁ (sym ok ∙ bad) in
       nowhere (sides l) (take (wide l) (part (part-size l) 0 tables)) e (facts-in (wide l) book)
@@ -105,7 +105,7 @@ module _ (l : Layout) (book tables : List ℕ) (m : Memory l book tables) where
         let n = ltb-true 0 (copies (entry-of (wide l) f) (facts-in (wide l) book)) (sym some) in
         let same = ap (λ (e : Entry). copies e (facts-in (wide l) book)) is in
         let accepted : refusal (sides l) (limits l) (house-in l book tables) (delete xs) ≡ None =
-            rw (read, ne-eqb (copies (entry-in (sides l) xs) (facts-in (wide l) book)) 0 (λ z. omega (arith, same, n))) in
+        rw (read, ne-eqb (copies (entry-in (sides l) xs) (facts-in (wide l) book)) 0 (λ z. omega (arith, same, n))) in
         let kept = tables-mapped (wide l) (part-size l) (Without-fact l (entry-of (wide l) f)) (without-fact (sides l) (entry-of (wide l) f)) tables tables₁ (λ us vs r. r .table) each in
         does-done l (delete xs) book tables book₁ tables₁ m accepted refl holds (facts ∙ ap (λ (e : Entry). without e (facts-in (wide l) book)) is) (long ∙ m .long)
         (record {

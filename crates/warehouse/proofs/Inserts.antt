@@ -121,7 +121,7 @@ module _ (l : Layout) (book tables : List ℕ) (m : Memory l book tables) where
       let right = m .valid .sound .right 0 first-part (m .valid .sound .some) in
       let a : first-part .levels ≡ finest (sides l) = ap (λ (k : Kept). k .levels) (sym is) ∙ levels in
       let b : first-part .cells ≡ table (sides l) (finest (sides l)) (facts-in (wide l) book) =
-          ap (λ (k : Kept). k .cells) (sym is) ∙ right ∙ ap (λ (ls : Row). table (sides l) ls (facts-in (wide l) book)) levels in
+      ap (λ (k : Kept). k .cells) (sym is) ∙ right ∙ ap (λ (ls : Row). table (sides l) ls (facts-in (wide l) book)) levels in
       rw (a, b) (sym (table-more (sides l) (finest (sides l)) e (facts-in (wide l) book)))
 
   pub facts-length : length (facts-in (wide l) book) ≡ count-in-book book
@@ -177,13 +177,13 @@ module _ (l : Layout) (book tables : List ℕ) (m : Memory l book tables) (xs : 
       let n = tables-length w s tables in
       let at = table-at w s i tables d k in
       let room = all-getD (λ t. length (with-fact (sides l) (entry-in (sides l) xs) t .cells) ≤ l .groups) (tables-in w s tables) i d (omega arith)
-          (full-none (sides l) (limits l) (entry-in (sides l) xs) 0 (tables-in w s tables) (known .2)) in
+      (full-none (sides l) (limits l) (entry-in (sides l) xs) 0 (tables-in w s tables) (known .2)) in
       let few : length (with-fact (sides l) (entry-of w f) d .cells) ≤ l .groups =
-          subst (λ (e : Entry). length (with-fact (sides l) e d .cells) ≤ l .groups) (sym is)
-          (subst (λ (t : Kept). length (with-fact (sides l) (entry-in (sides l) xs) t .cells) ≤ l .groups) at room) in
+      subst (λ (e : Entry). length (with-fact (sides l) e d .cells) ≤ l .groups) (sym is)
+      (subst (λ (t : Kept). length (with-fact (sides l) (entry-in (sides l) xs) t .cells) ≤ l .groups) at room) in
       let b = cells-bounded (sides l) (house-in l book tables) (m .valid .sound) (m .valid .whole) i d (omega arith) in
       let c : (total (d .cells) .count ≡ length (facts-in w book)) × (total (d .cells) .sum ≤ (2 ^ 32 - 1) * length (facts-in w book)) =
-          subst (λ (t : Kept). (total (t .cells) .count ≡ length (facts-in w book)) × (total (t .cells) .sum ≤ (2 ^ 32 - 1) * length (facts-in w book))) at (b .counts, b .sums) in
+      subst (λ (t : Kept). (total (t .cells) .count ≡ length (facts-in w book)) × (total (t .cells) .sum ≤ (2 ^ 32 - 1) * length (facts-in w book))) at (b .counts, b .sums) in
       let less : length (facts-in w book) ≤ 2 ^ 32 = omega (arith, known .1, l .book .bounded) in
       let most = mul-le-mul-left (2 ^ 32 - 1) less in
       let amount : f .amount < 2 ^ 32 = subst (λ (e : Entry). e .amount < 2 ^ 32) (sym is) (fact-read (sides l) xs (known .0) .1) in

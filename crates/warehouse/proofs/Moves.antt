@@ -36,9 +36,9 @@ part-same s j k xs ys p q h =
     let b = part-long s k ys q in
     ext-getD 0 (part s k ys) (part s j xs) (b ∙ sym a)
     (λ m n.
-        let below : m < s = omega arith in
-        (getD-take s (drop (1 + s * k) ys) m 0 below ∙ getD-drop (1 + s * k) ys m 0)
-        ∙ (h m below ∙ sym (getD-take s (drop (1 + s * j) xs) m 0 below ∙ getD-drop (1 + s * j) xs m 0)))
+    let below : m < s = omega arith in
+    (getD-take s (drop (1 + s * k) ys) m 0 below ∙ getD-drop (1 + s * k) ys m 0)
+    ∙ (h m below ∙ sym (getD-take s (drop (1 + s * j) xs) m 0 below ∙ getD-drop (1 + s * j) xs m 0)))
 
 -- a kept table fits its part
 pub table-fits : (l : Layout) (tables : List ℕ) (i : ℕ) → Ready l tables → i < getD tables 0 0
@@ -106,24 +106,24 @@ module _ (l : Layout) (i : ℕ) (xs : List ℕ) (long : length xs ≡ 1 + part-s
       let n = getD xs 0 0 in
       let count : getD ys 0 0 ≡ n - 1 = rw e (getD-set-same zs 0 (n - 1) 0 (omega arith)) in
       let before : (j : ℕ) → j < i → part s j ys ≡ part s j xs =
-          λ j h.
-          let f = within s j (omega arith) in
-          let g : s * j + s ≤ s * i = omega (arith, place-le s (suc j) i (omega arith), next-place s j) in
-          rw e (part-set s j (n - 1) zs ∙ part-same s j j xs zs (omega arith) (omega arith) (λ m q. low (1 + s * j + m) 0 (omega arith))) in
+      λ j h.
+      let f = within s j (omega arith) in
+      let g : s * j + s ≤ s * i = omega (arith, place-le s (suc j) i (omega arith), next-place s j) in
+      rw e (part-set s j (n - 1) zs ∙ part-same s j j xs zs (omega arith) (omega arith) (λ m q. low (1 + s * j + m) 0 (omega arith))) in
       let behind : (j : ℕ) → i ≤ j → j < n - 1 → part s j ys ≡ part s (j + 1) xs =
-          λ j h k.
-          let f = within s j (omega arith) in
-          let f₁ = within s (j + 1) (omega arith) in
-          let next : j + 1 ≡ suc j = omega arith in
-          let a : s * (j + 1) ≡ s + s * j = rw next (next-place s j) in
-          let next-i : i + 1 ≡ suc i = omega arith in
-          let b : s * (i + 1) ≡ s + s * i = rw next-i (next-place s i) in
-          let g : s * i ≤ s * j = place-le s i j h in
-          let g₂ : s * (j + 1) + s ≤ s * n = omega (arith, place-le s (suc (j + 1)) n (omega arith), next-place s (j + 1)) in
-          rw e (part-set s j (n - 1) zs ∙ part-same s (j + 1) j xs zs (omega arith) (omega arith)
-          (λ m q.
-              let p : 1 + s * (i + 1) + ((1 + s * j + m) - (1 + s * i)) ≡ 1 + s * (j + 1) + m = omega arith in
-              rw p at (high (1 + s * j + m) 0 (omega arith) (omega arith)))) in
+      λ j h k.
+      let f = within s j (omega arith) in
+      let f₁ = within s (j + 1) (omega arith) in
+      let next : j + 1 ≡ suc j = omega arith in
+      let a : s * (j + 1) ≡ s + s * j = rw next (next-place s j) in
+      let next-i : i + 1 ≡ suc i = omega arith in
+      let b : s * (i + 1) ≡ s + s * i = rw next-i (next-place s i) in
+      let g : s * i ≤ s * j = place-le s i j h in
+      let g₂ : s * (j + 1) + s ≤ s * n = omega (arith, place-le s (suc (j + 1)) n (omega arith), next-place s (j + 1)) in
+      rw e (part-set s j (n - 1) zs ∙ part-same s (j + 1) j xs zs (omega arith) (omega arith)
+      (λ m q.
+      let p : 1 + s * (i + 1) + ((1 + s * j + m) - (1 + s * i)) ≡ 1 + s * (j + 1) + m = omega arith in
+      rw p at (high (1 + s * j + m) 0 (omega arith) (omega arith)))) in
       let ks = kept-tables l xs in
       let ks-long : length ks ≡ n = tables-length w s xs in
       let all-long = length-removed ks i (omega (arith, ks-long)) in

@@ -59,9 +59,9 @@ each-more s R t xs ys zs long exact r e =
     record {
       head = head-kept s t ys zs long exact ∙ e .head;
       made = λ j h. elim (cases-lt j t) [
-          | inl below ↦ rw (part-before s t ys zs long exact j below) (e .made j below)
-          | inr last ↦ let same : j ≡ t = omega arith in rw (same, part-written s t ys zs long exact) r
-        ];
+        | inl below ↦ rw (part-before s t ys zs long exact j below) (e .made j below)
+        | inr last ↦ let same : j ≡ t = omega arith in rw (same, part-written s t ys zs long exact) r
+      ];
       rest = λ j h. part-behind s t ys zs long exact j (omega arith) ∙ e .rest j (omega arith);
     }
 
@@ -92,9 +92,9 @@ pub tables-mapped : (w s : ℕ) (R : List ℕ → List ℕ → Type 0) (f : Kept
 tables-mapped w s R f xs ys imp e =
     tables-are w s ys (map f (tables-in w s xs)) (e .head ∙ sym (length-map (tables-in w s xs) f ∙ tables-length w s xs))
     (λ i d l.
-        let n : i < getD xs 0 0 = omega (arith, length-map (tables-in w s xs) f, tables-length w s xs) in
-        let k = kept-in w (part s i xs) in
-        imp (part s i xs) (part s i ys) (e .made i n) ∙ sym (getD-map f (tables-in w s xs) i k d (omega (arith, tables-length w s xs)) ∙ ap f (table-at w s i xs k n)))
+    let n : i < getD xs 0 0 = omega (arith, length-map (tables-in w s xs) f, tables-length w s xs) in
+    let k = kept-in w (part s i xs) in
+    imp (part s i xs) (part s i ys) (e .made i n) ∙ sym (getD-map f (tables-in w s xs) i k d (omega (arith, tables-length w s xs)) ∙ ap f (table-at w s i xs k n)))
 
 -- one turn of such a loop, as the code has it
 pub each-turn : (s : ℕ) (R : List ℕ → List ℕ → Type 0) (t : ℕ) (xs ys zs : List ℕ) (a k : ℕ) → a ≡ 1 + s * t → k ≡ s → 1 + s * t + s ≤ length ys

@@ -126,6 +126,7 @@ asked-shown l xs ms i n book tables out out₁ there e is room written =
     let same-kept : k ≡ k₁ = is ∙ ap (λ (ns : Row). source ss ns (kept-tables l tables)) e in
     let fits : table-length (wide l) (length (k₁ .cells)) ≤ n = rw (← same-kept) room in
     let q = told-done ss (limits l) h (ask xs n) (ask-accepted ss (limits l) h xs n there fits) in
-    let long = levels-length ss ls (levels-there ss xs there) in
-    (ap (λ (x : Kept). Shown (length (x .cells))) same-kept ∙ sym (ap reply-of q),
-     written ∙ (row-shown (wide l) ss ls ms k k₁ out long e same-kept ∙ sym (ap (λ (t : Told). row-after ls t out) q)))
+    let long = levels-length ss ls (levels-there ss xs there) in (
+      ap (λ (x : Kept). Shown (length (x .cells))) same-kept ∙ sym (ap reply-of q),
+      written ∙ (row-shown (wide l) ss ls ms k k₁ out long e same-kept ∙ sym (ap (λ (t : Told). row-after ls t out) q)),
+    )

@@ -45,6 +45,13 @@ impl Shape {
         self.width + 1 + self.stride() * i
     }
 
+    // Whether a row of such a length has room for so many groups. A product of any two numbers could wrap, so this divides.
+    pub fn fits(self, length: usize, groups: usize) -> bool
+        ensures { λ r. ⌜ r ≡ leb (start (self .width) groups) length ⌝ }
+    {
+        self.width < length && groups <= (length - self.width - 1) / self.stride()
+    }
+
     // How many groups a row holds.
     pub fn count(self, row: &[u64]) -> usize
         requires { ⌜ Whole (self .width) (now row) ⌝ }

@@ -19,7 +19,8 @@ impl Warehouse {
         ensures house { λ _. ⌜ house-of (now (self .exit)) ≡ step (dims-in (now (self .entry))) (limits-in (now (self .entry))) (house-of (now (self .entry))) (insert (now (numbers .entry))) ⌝ }
         ensures same { λ _. ⌜ now (self .exit) .layout ≡ now (self .entry) .layout ⌝ }
     {
-        self.layout.insert(numbers, &mut self.book[..], &mut self.tables[..])
+        self.layout
+            .insert(numbers, &mut self.book[..], &mut self.tables[..])
     }
 
     // One fact equal to this one goes, the newest of several.
@@ -28,7 +29,8 @@ impl Warehouse {
         ensures house { λ _. ⌜ house-of (now (self .exit)) ≡ step (dims-in (now (self .entry))) (limits-in (now (self .entry))) (house-of (now (self .entry))) (delete (now (numbers .entry))) ⌝ }
         ensures same { λ _. ⌜ now (self .exit) .layout ≡ now (self .entry) .layout ⌝ }
     {
-        self.layout.delete(numbers, &mut self.book[..], &mut self.tables[..])
+        self.layout
+            .delete(numbers, &mut self.book[..], &mut self.tables[..])
     }
 
     // One table more, at these levels, made of the smallest that is kept and no coarser.
@@ -37,7 +39,12 @@ impl Warehouse {
         ensures house { λ _. ⌜ house-of (now (self .exit)) ≡ step (dims-in (now (self .entry))) (limits-in (now (self .entry))) (house-of (now (self .entry))) (keep (now (numbers .entry))) ⌝ }
         ensures same { λ _. ⌜ now (self .exit) .layout ≡ now (self .entry) .layout ⌝ }
     {
-        self.layout.keep(numbers, &self.book[..], &mut self.tables[..], &mut self.row[..])
+        self.layout.keep(
+            numbers,
+            &self.book[..],
+            &mut self.tables[..],
+            &mut self.row[..],
+        )
     }
 
     // The table at these levels is kept no more.
@@ -46,7 +53,8 @@ impl Warehouse {
         ensures house { λ _. ⌜ house-of (now (self .exit)) ≡ step (dims-in (now (self .entry))) (limits-in (now (self .entry))) (house-of (now (self .entry))) (drop-table (now (numbers .entry))) ⌝ }
         ensures same { λ _. ⌜ now (self .exit) .layout ≡ now (self .entry) .layout ⌝ }
     {
-        self.layout.drop_table(numbers, &self.book[..], &mut self.tables[..])
+        self.layout
+            .drop_table(numbers, &self.book[..], &mut self.tables[..])
     }
 
     // The totals at these levels, into a lent row, and how many groups were looked at.
@@ -55,7 +63,8 @@ impl Warehouse {
         ensures row { λ _. ⌜ now (out .exit) ≡ row-after (levels-in (dims-in (now (self .entry))) (now (numbers .entry))) (told (dims-in (now (self .entry))) (limits-in (now (self .entry))) (house-of (now (self .entry))) (ask (now (numbers .entry)) (length (now (out .entry))))) (now (out .entry)) ⌝ }
         ensures shown { λ _. ⌜ ((t : Table) (n : ℕ) → told (dims-in (now (self .entry))) (limits-in (now (self .entry))) (house-of (now (self .entry))) (ask (now (numbers .entry)) (length (now (out .entry)))) ≡ shown t n → (table-in (length (dims-in (now (self .entry)))) (now (out .exit)) ≡ t) × Whole (length (dims-in (now (self .entry)))) (now (out .exit))) ⌝ }
     {
-        self.layout.ask(numbers, &self.book[..], &self.tables[..], out)
+        self.layout
+            .ask(numbers, &self.book[..], &self.tables[..], out)
     }
 
     // How its tables lie in memory.

@@ -8,8 +8,8 @@ ghost use Rattle.std.specs.Vec.{made};
 ghost use Rattle.warehouse.specs.House.{empty};
 ghost use Rattle.warehouse.specs.Memory.{sides};
 ghost use Rattle.warehouse.specs.Views.{house-of};
-use super::Warehouse;
 use super::super::layout::Layout;
+use super::Warehouse;
 use std::alloc::AllocError;
 use std::alloc::Global;
 
@@ -29,6 +29,11 @@ impl Warehouse {
         let mut tables = zeros(heap, layout.tables_length())?;
         let row = zeros(heap, layout.part_length())?;
         tables[0] = 1;
-        Ok(Warehouse { layout, book, tables, row })
+        Ok(Warehouse {
+            layout,
+            book,
+            tables,
+            row,
+        })
     }
 }

@@ -32,7 +32,8 @@ impl Layout {
         ensures { λ r. ⌜ r ≡ (no-coarser (sides (now (self .entry))) (kept-table (now (self .entry)) i (now (tables .entry)) .levels) (levels-of (wide (now (self .entry))) levels) && ltb (length (kept-table (now (self .entry)) i (now (tables .entry)) .cells)) (length (kept-table (now (self .entry)) best (now (tables .entry)) .cells))) ⌝ }
     {
         let at = self.levels_in(self.part(tables, i));
-        at.no_coarser(&self.dims, levels) && self.groups_at(tables, i) < self.groups_at(tables, best)
+        at.no_coarser(&self.dims, levels)
+            && self.groups_at(tables, i) < self.groups_at(tables, best)
     }
 
     // Of the kept tables that are no coarser than the levels, one with fewest groups, the first of several. The first table is the
@@ -57,7 +58,8 @@ impl Layout {
         ensures after { λ _. ⌜ now (to .exit) ≡ row-over (wide (now (self .entry))) (levels-of (wide (now (self .entry))) levels) (rolled (sides (now (self .entry))) (kept-table (now (self .entry)) i (now (tables .entry)) .levels) (levels-of (wide (now (self .entry))) levels) (kept-table (now (self .entry)) i (now (tables .entry)) .cells)) (now (to .entry)) ⌝ }
         ensures sound { λ _. ⌜ Sound (wide (now (self .entry))) (now (to .exit)) ⌝ }
     {
-        self.shape.roll(&self.dims, self.part(tables, i), levels, to);
+        self.shape
+            .roll(&self.dims, self.part(tables, i), levels, to);
     }
 
     // Writes the totals at the levels asked for into a lent row, and tells how many groups were looked at.

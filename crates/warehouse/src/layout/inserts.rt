@@ -79,6 +79,13 @@ impl Layout {
     {
         let levels = self.levels_in(part);
         let place = self.dims.place_at(levels, fact.place);
-        self.shape.put(part, Group { place, count: 1, sum: fact.amount });
+        self.shape.put(
+            part,
+            Group {
+                place,
+                count: 1,
+                sum: fact.amount,
+            },
+        );
     }
 }

@@ -31,7 +31,12 @@ impl Layout {
         }
         let shape = Shape::new(width)?;
         let book = Book::new(width, facts)?;
-        Some(Layout { dims, shape, book, groups })
+        Some(Layout {
+            dims,
+            shape,
+            book,
+            groups,
+        })
     }
 
     // How a table lies in memory.
@@ -91,6 +96,8 @@ impl Layout {
     pub(super) fn levels_in(&self, part: &[u64]) -> Levels
         ensures { λ r. ⌜ r .at ≡ four (take (wide (now (self .entry))) (now (part .entry))) ⌝ }
     {
-        Levels { at: padded(part, self.dims.width()) }
+        Levels {
+            at: padded(part, self.dims.width()),
+        }
     }
 }

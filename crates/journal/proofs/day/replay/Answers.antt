@@ -20,7 +20,7 @@ returns c =
     let done = c .in-Continue-whole .ensures tt in
     let read = c .in-Ok .ensures tt in
     day-done (c .args .bytes .now) part (c .as-slice .result .now) (string-bytes (c .run .last .text)) (c .in-Continue-whole .whole) (c .in-Ok .dims)
-        (c .as-slice .ensures .value ∙ c .in-Continue-sides .ensures tt) (read .0) (read .1)
-        (take-rest (c .args .bytes .now) (4 * c .count-sides .result) ∙ ap (λ (n : ℕ). drop (4 * n) (c .args .bytes .now)) (c .count-sides .ensures .0))
-        (done .0 ∙ ap (λ bs. bs ++ replies (dims-of (c .in-Ok .dims)) replay-limits (empty (dims-of (c .in-Ok .dims))) (deeds-in (length (dims-of (c .in-Ok .dims))) replay-row part)) (c .new-text .ensures .bytes))
-        (done .1)
+    (c .as-slice .ensures .value ∙ c .in-Continue-sides .ensures tt) (read .0) (read .1)
+    (take-rest (c .args .bytes .now) (4 * c .count-sides .result) ∙ ap (λ (n : ℕ). drop (4 * n) (c .args .bytes .now)) (c .count-sides .ensures .0))
+    (done .0 ∙ ap (λ bs. bs ++ replies (dims-of (c .in-Ok .dims)) replay-limits (empty (dims-of (c .in-Ok .dims))) (deeds-in (length (dims-of (c .in-Ok .dims))) replay-row part)) (c .new-text .ensures .bytes))
+    (done .1)

@@ -53,11 +53,11 @@ returns c =
     let q = c .part-length .ensures .0 in
     let size : (c .at-at .result + c .part-length .result) - c .at-at .result ≡ s = omega (arith, q) in
     let e : set (putMid (c .at-at .result) ((c .at-at .result + c .part-length .result) - c .at-at .result) xs row) 0 (n + 1)
-        ≡ set (putMid (1 + s * n) s xs row) 0 (n + 1) = rw (size, p) in
+    ≡ set (putMid (1 + s * n) s xs row) 0 (n + 1) = rw (size, p) in
     let row-sound : summary.Sound w row = rw copied (c .roll .ensures .sound) in
     let four : length (c .args .levels .at) ≡ 4 = search needs in
     let long : length ls ≡ w = length-take-le w (c .args .levels .at) (omega (arith, four, dims-few (l .dims))) in
     let made = rolled-kept w ss ls (part s i xs) (c .args .row .now) row refl long (c .pre .ready .sound i there) (copied ∙ c .roll .ensures .after) in
     let answered : kept-in w row ≡ record { levels = ls; cells = answer ss ls ks } =
-        made ∙ ap (λ (k : Kept). record { levels = ls; cells = rolled ss (k .levels) ls (k .cells) }) (c .source-from .ensures .1) in
+    made ∙ ap (λ (k : Kept). record { levels = ls; cells = rolled ss (k .levels) ls (k .cells) }) (c .source-from .ensures .1) in
     pushed l xs row (c .pre .ready .long) (c .pre .room) exact _ (record { levels = ls; cells = answer ss ls ks }) e (c .pre .ready .sound) row-sound answered

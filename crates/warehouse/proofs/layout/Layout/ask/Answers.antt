@@ -74,5 +74,5 @@ returns c =
     let there = c .in-Ok .ensures tt .0 in
     let m = read-are l (c .in-Ok .levels) (c .args .numbers .now) there (c .in-Ok .ensures tt .1) in
     let r = asked-shown l (c .args .numbers .now) (levels-of (wide l) (c .in-Ok .levels)) (c .source-from .result) (length (c .args .out .now)) (c .args .book .now)
-        (c .args .tables .now) (c .args .out .now) (c .roll .last .to) there m (c .source-from .ensures .1) (rw (← p) (c .if-out-start .left)) (c .roll .ensures .after) in
+    (c .args .tables .now) (c .args .out .now) (c .roll .last .to) there m (c .source-from .ensures .1) (rw (← p) (c .if-out-start .left)) (c .roll .ensures .after) in
     record { reply = rw e (r .0); row = r .1 }

@@ -19,8 +19,8 @@ returns-then-not-strike c =
     let struck = c .if-not-strike .ensures tt in
     let none = nothing-deleted (c .args .self .now) (c .args .book .now) (c .args .tables .now) (c .pre) (c .args .numbers .now) (c .in-Ok .fact) (read .0) (entry .0) (struck .told) in
     subst (λ (b : List ℕ). Does (c .args .self .now) (delete (c .args .numbers .now)) (Refused NoSuchFact) (c .args .book .now) (c .args .tables .now) b (c .args .tables .now))
-        (sym (struck .none refl))
-        (does-refused (c .args .self .now) (delete (c .args .numbers .now)) NoSuchFact (c .args .book .now) (c .args .tables .now) (c .pre) none)
+    (sym (struck .none refl))
+    (does-refused (c .args .self .now) (delete (c .args .numbers .now)) NoSuchFact (c .args .book .now) (c .args .tables .now) (c .pre) none)
 
 pub take-all-requires : need.take-all-requires
 take-all-requires c κs =
@@ -36,7 +36,7 @@ take-all-requires c κs =
 pub returns-in-Err : need.returns-in-Err
 returns-in-Err c =
     does-refused (c .args .self .now) (delete (c .args .numbers .now)) (c .in-Err .refusal) (c .args .book .now) (c .args .tables .now) (c .pre)
-        (refused-fact (c .args .self .now) (c .args .book .now) (c .args .tables .now) (c .pre) (c .args .numbers .now) (c .in-Err .refusal) (c .in-Err .ensures tt))
+    (refused-fact (c .args .self .now) (c .args .book .now) (c .args .tables .now) (c .pre) (c .args .numbers .now) (c .in-Err .refusal) (c .in-Err .ensures tt))
 
 pub returns-else-not-strike : need.returns-else-not-strike
 returns-else-not-strike c =
@@ -44,4 +44,4 @@ returns-else-not-strike c =
     let entry = read-entry (sides (c .args .self .now)) (c .args .numbers .now) (c .in-Ok .fact) (dims-few (c .args .self .now .dims)) (read .0) (read .1) (read .2) in
     let struck = c .if-not-strike .ensures tt in
     deleted-done (c .args .self .now) (c .args .book .now) (c .args .tables .now) (c .pre) (c .args .numbers .now) (c .in-Ok .fact) (read .0) (entry .0)
-        (c .strike .last .book) (c .take-all .last .tables) (struck .told) (struck .facts) (struck .holds) (c .take-all .kept .tables) (c .take-all .ensures)
+    (c .strike .last .book) (c .take-all .last .tables) (struck .told) (struck .facts) (struck .holds) (c .take-all .kept .tables) (c .take-all .ensures)

@@ -32,5 +32,5 @@ pub returns-in-Ok : need.returns-in-Ok
 returns-in-Ok c =
     let ok = c .in-Ok .ensures tt in
     inserted-done (c .args .self .now) (c .args .book .now) (c .args .tables .now) (c .pre) (c .args .numbers .now) (c .in-Ok .fact) (ok .0) (ok .1)
-        (c .args .self .now .book .width) (c .insert .last .row) (c .put-all .last .tables) (c .args .self .now .booked) (c .insert .ensures .facts) (c .insert .ensures .holds)
-        (c .put-all .kept .tables) (c .put-all .ensures)
+    (c .args .self .now .book .width) (c .insert .last .row) (c .put-all .last .tables) (c .args .self .now .booked) (c .insert .ensures .facts) (c .insert .ensures .holds)
+    (c .put-all .kept .tables) (c .put-all .ensures)

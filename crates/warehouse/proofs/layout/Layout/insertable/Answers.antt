@@ -29,11 +29,13 @@ returns-then-not-takes c =
     let read = c .in-Continue-fact .ensures tt in
     let entry = read-entry (sides (c .args .self .now)) (c .args .numbers .now) (c .in-Continue-fact .fact) (dims-few (c .args .self .now .dims)) (read .0) (read .1) (read .2) in
     room-by (c .args .self .now) (c .args .book .now) (c .args .tables .now) (c .pre) (c .args .numbers .now) (read .0) false (entry-of (wide (c .args .self .now)) (c .in-Continue-fact .fact))
-        (c .part .result .now) (entry .0) (c .part .ensures .0) (c .if-is-full .ensures tt) (c .if-not-takes .ensures tt)
+    (c .part .result .now) (entry .0) (c .part .ensures .0) (c .if-is-full .ensures tt) (c .if-not-takes .ensures tt)
 
 pub returns : need.returns
 returns c =
     let read = c .in-Continue-fact .ensures tt in
-    let entry = read-entry (sides (c .args .self .now)) (c .args .numbers .now) (c .in-Continue-fact .fact) (dims-few (c .args .self .now .dims)) (read .0) (read .1) (read .2) in
-    (room-by (c .args .self .now) (c .args .book .now) (c .args .tables .now) (c .pre) (c .args .numbers .now) (read .0) true (entry-of (wide (c .args .self .now)) (c .in-Continue-fact .fact))
-        (c .part .result .now) (entry .0) (c .part .ensures .0) (c .if-is-full .ensures tt) (c .if-not-takes .ensures tt), entry .0)
+    let entry = read-entry (sides (c .args .self .now)) (c .args .numbers .now) (c .in-Continue-fact .fact) (dims-few (c .args .self .now .dims)) (read .0) (read .1) (read .2) in (
+      room-by (c .args .self .now) (c .args .book .now) (c .args .tables .now) (c .pre) (c .args .numbers .now) (read .0) true (entry-of (wide (c .args .self .now)) (c .in-Continue-fact .fact))
+          (c .part .result .now) (entry .0) (c .part .ensures .0) (c .if-is-full .ensures tt) (c .if-not-takes .ensures tt),
+      entry .0,
+    )

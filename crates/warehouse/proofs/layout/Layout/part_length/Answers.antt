@@ -9,5 +9,5 @@ use Rattle.warehouse.proofs.layout.Layout.part_length.Needs as need
 pub returns : need.returns
 returns c =
     let e : c .start .result ≡ start (wide (c .args .self .now)) (c .args .self .now .groups) =
-        c .start .ensures ∙ ap (λ (w : ℕ). start w (c .args .self .now .groups)) (c .args .self .now .shaped) in
+    c .start .ensures ∙ ap (λ (w : ℕ). start w (c .args .self .now .groups)) (c .args .self .now .shaped) in
     (e, rw e (size-bound (wide (c .args .self .now)) (c .args .self .now .groups) (dims-few (c .args .self .now .dims)) (c .args .self .now .bounded)))

@@ -31,6 +31,7 @@ pub returns : need.returns
 returns c =
     let l = c .args .self .now in
     let xs = c .args .tables .now in
-    let ls = levels-of (wide l) (c .args .levels) in
-    (c .loop-i .inv .0,
-     sym (source-end (wide l) (part-size l) xs (sides l) ls (kept-table l (c .loop-i .best) xs) (c .loop-i .i) (omega (arith, c .pre .some))) ∙ c .loop-i .inv .1)
+    let ls = levels-of (wide l) (c .args .levels) in (
+      c .loop-i .inv .0,
+      sym (source-end (wide l) (part-size l) xs (sides l) ls (kept-table l (c .loop-i .best) xs) (c .loop-i .i) (omega (arith, c .pre .some))) ∙ c .loop-i .inv .1,
+    )
