@@ -1,4 +1,5 @@
-// What both test programs need: numbers as bytes, random numbers, a temporary folder, and running the program.
+// What the test programs need, each a part of it: numbers as bytes, random numbers, a temporary folder, and running the program.
+#![allow(dead_code)]
 use std::fs::{self, File};
 use std::path::{Path, PathBuf};
 use std::process::{Command, Stdio};
