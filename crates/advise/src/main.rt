@@ -1,4 +1,6 @@
-// Chooses tables to keep for the facts of a file, or of standard input, and prints what they save.
+//! Chooses tables to keep for the facts of a file, or of standard input, and prints what they save.
+#![tactic(auto)]
+
 ghost use Rattle.std.specs.Prelude.{◌≤◌};
 
 use anyhow::anyhow;

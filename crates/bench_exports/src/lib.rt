@@ -1,4 +1,6 @@
-// What the benchmark calls: tables of two dimensions, by the calling convention of C. The caller sees to it that a row holds a table.
+//! What the benchmark calls: tables of two dimensions, by the calling convention of C. The caller sees to it that a row holds a table.
+#![tactic(auto)]
+
 ghost use Rattle.std.specs.Prelude.{[], ◌∷◌, ◌+◌, ◌^◌, ◌<◌};
 ghost use Rattle.totals.specs.Counts.{at};
 ghost use Rattle.summary.specs.Memory.{table_in, Sound};

@@ -1,4 +1,6 @@
-// The greedy choice of tables where the sizes of all levels are known.
+//! The greedy choice of tables where the sizes of all levels are known.
+#![tactic(auto)]
+
 pub mod by_sizes;
 pub mod turn;
 

@@ -1,4 +1,6 @@
-// Dimensions, their levels, places at levels, and facts.
+//! Dimensions, their levels, places at levels, and facts.
+#![tactic(auto)]
+
 pub mod dimension;
 pub mod dimensions;
 pub mod fact;

@@ -1,4 +1,6 @@
-// Tests of hierarchy: rows at the edge of what is accepted, and the worked example of two dimensions, `2 2` and `7`.
+//! Tests of hierarchy: rows at the edge of what is accepted, and the worked example of two dimensions, `2 2` and `7`.
+#![tactic(auto)]
+
 #[cfg(test)]
 mod tests {
     use hierarchy::{Dimension, Dimensions, Fact, Levels};

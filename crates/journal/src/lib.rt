@@ -1,4 +1,6 @@
-// A day: deeds read from bytes, and their answers as text.
+//! A day: deeds read from bytes, and their answers as text.
+#![tactic(auto)]
+
 pub mod day;
 pub mod deed;
 pub mod theorems;

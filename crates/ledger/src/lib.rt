@@ -1,4 +1,6 @@
-// A book of facts in lent memory, in the order in which they came.
+//! A book of facts in lent memory, in the order in which they came.
+#![tactic(auto)]
+
 pub mod book;
 pub mod theorems;
 

@@ -1,4 +1,6 @@
-// Does the deeds of a file, or of standard input, in order from an empty warehouse, and prints what is told of them.
+//! Does the deeds of a file, or of standard input, in order from an empty warehouse, and prints what is told of them.
+#![tactic(auto)]
+
 use anyhow::anyhow;
 use std::io::{Read, Write};
 use std::{env, fs};

@@ -1,4 +1,6 @@
-// What is told of a deed: done, shown with its work, or refused with a reason.
+//! What is told of a deed: done, shown with its work, or refused with a reason.
+#![tactic(auto)]
+
 ghost use Rattle.std.specs.Prelude.{◌≡◌, Some};
 ghost use Rattle.replies.specs.Replies.{number, place, refusal_text, reply_text};
 

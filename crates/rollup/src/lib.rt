@@ -1,4 +1,6 @@
-// Tables in rows that came from elsewhere: one checked, and one rolled up into another row.
+//! Tables in rows that came from elsewhere: one checked, and one rolled up into another row.
+#![tactic(auto)]
+
 ghost use Rattle.std.specs.Prelude.{◌≡◌, ◌<◌, ◌≤◌, length, Some, None, Ok, Err};
 ghost use Rattle.hierarchy.specs.Dimensions.{four};
 ghost use Rattle.hierarchy.specs.Reading.{dims_in};

@@ -1,4 +1,6 @@
-// Which tables to keep: the greedy choice by what they save.
+//! Which tables to keep: the greedy choice by what they save.
+#![tactic(auto)]
+
 pub mod entry;
 pub mod fault;
 pub mod rolling;

@@ -1,4 +1,6 @@
-// The deeds of a warehouse over lent memory that holds one.
+//! The deeds of a warehouse over lent memory that holds one.
+#![tactic(auto)]
+
 pub mod layout;
 
 pub use layout::Layout;

@@ -1,4 +1,6 @@
-// Tables of totals in lent memory.
+//! Tables of totals in lent memory.
+#![tactic(auto)]
+
 pub mod group;
 pub mod shape;
 

@@ -1,4 +1,6 @@
-// Tests of lent tables: facts put in one by one, rows checked and rolled up, and each refusal with its place.
+//! Tests of lent tables: facts put in one by one, rows checked and rolled up, and each refusal with its place.
+#![tactic(auto)]
+
 #[cfg(test)]
 mod tests {
     use hierarchy::Dimensions;

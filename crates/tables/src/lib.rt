@@ -1,4 +1,6 @@
-// The kept tables of a warehouse in lent memory: how many there are, and then parts, each with the room of one whole table.
+//! The kept tables of a warehouse in lent memory: how many there are, and then parts, each with the room of one whole table.
+#![tactic(auto)]
+
 pub mod layout;
 pub mod room;
 

@@ -1,4 +1,6 @@
-// A warehouse of facts and kept tables of totals that owns its memory: the deeds, for all input.
+//! A warehouse of facts and kept tables of totals that owns its memory: the deeds, for all input.
+#![tactic(auto)]
+
 pub mod house;
 
 pub use house::Warehouse;

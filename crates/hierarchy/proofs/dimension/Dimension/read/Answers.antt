@@ -19,5 +19,5 @@ invariant-of-result c =
 pub returns : goal.returns
 returns c =
     let e = take_behind (get_or c.args.row.now 0 0) c.args.row.now c.if-row-gt4.false c.if-row-lt5.false in
-    let s = is_small (get_or c.args.row.now 0 0) (drop 1 c.args.row.now) c.if-not-product-is-small.ensures in
+    let s = is_small (get_or c.args.row.now 0 0) (drop 1 c.args.row.now) c.if-not-product_is_small.ensures in
     (and_from _ _ (le-leb 5 (length c.args.row.now) (omega arith)) (and_from _ _ (le-leb _ 4 c.if-row-gt4.false) s), e)

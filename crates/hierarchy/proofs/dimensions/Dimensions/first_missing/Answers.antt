@@ -13,7 +13,7 @@ returns-then-i-row c =
       | then-i-row-via-then-i-row w ↦ inl w.if-i-row.true
       | then-i-row-via-else-i-row+then-row-i w ↦
           let at = dims_at c.args.self.now c.loop-i.i w.index-self-i.result c.loop-i-test.true in
-          inr (w.if-i-row.false, rw at (omega (arith, w.level-count.ensures, w.if-row-i.true)))
+          inr (w.if-i-row.false, rw at (omega (arith, w.level_count.ensures, w.if-row-i.true)))
     ]) in
     sym (c.loop-i.invariant ∙ here)
 
@@ -23,7 +23,7 @@ loop-i-preserved c =
     let at = dims_at c.args.self.now c.loop-i.i c.index-self-i.result c.loop-i-test.true in
     c.loop-i.invariant
     ∙ missing_on (dims_of c.args.self.now) c.args.row.now c.loop-i.i (omega arith) c.if-i-row.false
-    (rw at (omega (arith, c.level-count.ensures, c.if-row-i.false)))
+    (rw at (omega (arith, c.level_count.ensures, c.if-row-i.false)))
 
 pub returns : goal.returns
 returns c = sym (c.loop-i.invariant ∙ missing_end (dims_of c.args.self.now) c.args.row.now c.loop-i.i (omega (arith, dims_length c.args.self.now)))

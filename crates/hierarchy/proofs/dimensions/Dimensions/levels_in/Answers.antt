@@ -9,7 +9,7 @@ returns-then-i-self c =
     let at = dims_at c.args.self.now c.args.i c.index-self-i.result c.if-i-self.true in
     let there = levels_there (dims_of c.args.self.now) c.args.i (omega (arith, dims_length c.args.self.now)) in
     let few = few_factors (get_or c.args.self.now.each c.args.i c.index-self-i.result) in
-    (c.level-count.ensures ∙ sym (rw at at there), (omega (arith, c.level-count.ensures), omega (arith, c.level-count.ensures, few)))
+    (c.level_count.ensures ∙ sym (rw at at there), (omega (arith, c.level_count.ensures), omega (arith, c.level_count.ensures, few)))
 
 pub returns-else-i-self : goal.returns-else-i-self
 returns-else-i-self c =

@@ -44,6 +44,6 @@ returns-in-err-fourth c =
 pub returns : goal.returns
 unfolding dims_of
 returns c =
-    let whole = c.in-ok-width.ensures in
-    read_all c.in-ok-width.width c.args.row.now c.in-ok-first.first c.in-ok-second.second c.in-ok-third.third c.in-ok-fourth.fourth
-    whole.3 whole.1 whole.0 c.in-ok-first.ensures c.in-ok-second.ensures c.in-ok-third.ensures c.in-ok-fourth.ensures
+    let whole = c.in_ok-width.ensures in
+    read_all c.in_ok-width.width c.args.row.now c.in_ok-first.first c.in_ok-second.second c.in-ok-third.third c.in-ok-fourth.fourth
+    whole.3 whole.1 whole.0 c.in_ok-first.ensures c.in_ok-second.ensures c.in-ok-third.ensures c.in-ok-fourth.ensures

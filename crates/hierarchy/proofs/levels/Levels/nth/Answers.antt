@@ -23,5 +23,5 @@ pub returns : goal.returns
 returns c =
     let nth = nth_by_four (dims_of c.args.dims.now) c.args.index (dims_some c.args.dims.now) (dims_few c.args.dims.now) in (
       omega (arith, c.if-index-count.false, c.count.ensures),
-      rw (c.levels-in-second.ensures.0, c.levels-in-third.ensures.0, c.levels-in-fourth.ensures.0) nth,
+      rw (c.levels_in-second.ensures.0, c.levels_in-third.ensures.0, c.levels_in-fourth.ensures.0) nth,
     )
