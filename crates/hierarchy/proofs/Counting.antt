@@ -1,5 +1,5 @@
 -- How many rows of levels there are in at most four dimensions, and which is the i-th. Assumes nothing.
-use Rattle.std.proofs.Common.{◌≡◌, ℕ, zero, suc, ◌+◌, ◌*◌, ◌/◌, ◌%◌, ◌<◌, ◌≤◌, List, [], ◌∷◌, length, get_or, sym, refl, ap, ◌∙◌, mul-le-mul, one-mul, mul-one, div-one, arith}
+use Rattle.std.proofs.Common.{◌≡◌, ℕ, zero, suc, ◌+◌, ◌*◌, ◌/◌, ◌%◌, ◌<◌, ◌≤◌, [], ◌∷◌, length, get_or, refl, mul-le-mul, mul-one, div-one, arith}
 use native.Mathlib.Nat.{mod-one, zero-div}
 use Rattle.hierarchy.specs.Dimensions.{Dims, four}
 use Rattle.hierarchy.specs.Levels.{levels_in_dimension, total_levels, nth_levels}

@@ -1,9 +1,9 @@
 -- The laws of dimensions, levels and places. Crates above cite these and never unfold the definitions, so that another kind
 -- of hierarchy moves the definitions and this file only. Assumes nothing.
-use Rattle.std.proofs.Common.{◌≡◌, ℕ, zero, suc, ◌+◌, ◌-◌, ◌*◌, ◌/◌, ◌<◌, ◌≤◌, Bool, true, false, cond, ◌&&◌, eqb, ltb, leb, List, [], ◌∷◌, ◌++◌, map, length, get_or, take, drop, sym, refl, ap, ◌∙◌, subst, mul_assoc, one-mul, mul-one, div-one, arith}
-use native.Mathlib.Nat.{div-div-eq-div-mul, zero-div}
+use Rattle.std.proofs.Common.{◌≡◌, ℕ, zero, suc, ◌+◌, ◌*◌, ◌/◌, ◌<◌, ◌≤◌, Bool, true, false, cond, ltb, leb, List, [], ◌∷◌, ◌++◌, length, get_or, take, drop, sym, refl, ap, mul_assoc, one-mul, mul-one, div-one, arith}
+use native.Mathlib.Nat.{div-div-eq-div-mul}
 use Rattle.std.proofs.lemmas.List.{take_more, drop_at, length-take-le}
-use Rattle.std.proofs.lemmas.Bool.{leb-true, le-leb, ltb-true, ltb-false, lt-ltb, le-ltb, and_parts, and_from, true≢false}
+use Rattle.std.proofs.lemmas.Bool.{leb-true, le-leb, ltb-false, lt-ltb, le-ltb, and_parts, and_from, true≢false}
 use Rattle.hierarchy.specs.Dimensions.{Factors, Dims, Row, product, up, last_level}
 use Rattle.hierarchy.specs.Levels.{are_levels, no_coarser, finest}
 use Rattle.hierarchy.specs.Places.{place_up, place_at}

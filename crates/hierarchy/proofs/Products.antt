@@ -1,5 +1,5 @@
 -- Products of factors: one factor more, a part of them, and when the product of all is small. Assumes nothing.
-use Rattle.std.proofs.Common.{◌≡◌, ℕ, zero, suc, ◌+◌, ◌*◌, ◌^◌, ◌<◌, ◌≤◌, max, Bool, true, false, ◌&&◌, ltb, ◌⊎◌, List, [], ◌∷◌, ◌++◌, length, get_or, take, drop, sym, refl, ap, ◌∙◌, subst, inl, inr, ⊎_elim, mul-le-mul_right, mul_assoc, mul-le-mul, mul-le-mul_left, one-mul, mul-zero, zero-mul, mul-one, arith}
+use Rattle.std.proofs.Common.{◌≡◌, ℕ, zero, suc, ◌+◌, ◌*◌, ◌^◌, ◌<◌, ◌≤◌, max, true, false, ltb, ◌⊎◌, List, [], ◌∷◌, ◌++◌, length, get_or, take, drop, sym, refl, ap, ◌∙◌, inl, inr, ⊎_elim, one-mul, mul-zero, zero-mul, mul-one, arith}
 use Rattle.std.proofs.lemmas.List.{take-append-drop, drop_more, drop_all, length-take, get_or-take}
 use Rattle.std.proofs.lemmas.Bool.{lt-ltb, le-ltb, and_left, and_right, and_from, and_parts, ltb-true, cases_lt}
 use Rattle.hierarchy.specs.Dimensions.{product}

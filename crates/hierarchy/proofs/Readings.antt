@@ -1,12 +1,11 @@
 -- Rows of numbers read as dimensions: what follows from what is known of each dimension. Assumes nothing.
-use Rattle.std.proofs.Common.{◌≡◌, ℕ, zero, suc, ◌+◌, ◌*◌, ◌<◌, ◌≤◌, Bool, true, false, cond, List, [], ◌∷◌, map, length, get_or, take, drop, Some, None, sym, refl, ap, ◌∙◌, zero-add, arith}
-use Rattle.std.specs.Option.{option_map}
+use Rattle.std.proofs.Common.{◌≡◌, ℕ, zero, suc, ◌+◌, ◌*◌, ◌<◌, ◌≤◌, true, false, List, [], ◌∷◌, map, length, get_or, take, drop, Some, None, sym, refl, ap, ◌∙◌, zero-add, arith}
 use Rattle.std.proofs.lemmas.List.{drop-drop}
 use Rattle.hierarchy.specs.Dimensions.{Row}
 use Rattle.hierarchy.specs.Reading.{is_dimension, factors_in, dims_from, first_bad, is_whole, dims_refusal}
 use Rattle.hierarchy.specs.Views.{factors_of}
 use Rattle.hierarchy.specs.declared.dimension.Dimension.{Dimension}
-use Rattle.replies.specs.declared.Refusal.TheVariants.{NoDimensions, BadDimension}
+use Rattle.replies.specs.declared.Refusal.TheVariants.{BadDimension}
 
 -- what holds of each of four holds of those below w
 pub by_four : (P : ℕ → Type 0) (w : ℕ) → w ≤ 4 → (0 < w → P 0) → (1 < w → P 1) → (2 < w → P 2) → (3 < w → P 3) → (j : ℕ) → j < w → P j

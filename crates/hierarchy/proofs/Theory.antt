@@ -1,10 +1,10 @@
 -- The theorems of this crate, from its laws. Assumes nothing.
-use Rattle.std.proofs.Common.{◌≡◌, ℕ, zero, suc, ◌+◌, ◌*◌, ◌^◌, ◌<◌, ◌≤◌, Bool, true, false, cond, ◌&&◌, leb, List, [], ◌∷◌, length, get_or, take, drop, Some, None, Option, sym, refl, ap, ◌∙◌, arith}
+use Rattle.std.proofs.Common.{◌≡◌, ℕ, zero, suc, ◌+◌, ◌*◌, ◌^◌, ◌<◌, ◌≤◌, Bool, true, false, ◌&&◌, leb, [], ◌∷◌, length, get_or, take, drop, Some, None, Option, sym, refl, ap, arith}
 use Rattle.std.specs.Option.{option_map}
 use Rattle.std.proofs.lemmas.List.{get_or-take, length-take, length-take-le}
 use Rattle.std.proofs.lemmas.Bool.{and_parts, and_from, leb-true, true≢false}
-use Rattle.hierarchy.specs.Dimensions.{Factors, Dims, Row, product, last_level}
-use Rattle.hierarchy.specs.Levels.{are_levels, finest}
+use Rattle.hierarchy.specs.Dimensions.{Dims, Row, product, last_level}
+use Rattle.hierarchy.specs.Levels.{are_levels}
 use Rattle.hierarchy.specs.Promises.{LevelIs, UpAndOn, NoCoarserOrders, EveryOnce, ReadRight}
 use Rattle.hierarchy.specs.Reading.{small, factors_in, is_dimension, is_whole, dims_from, dims_in, first_bad, dims_refusal, first_missing, levels_in, levels_refusal, first_wrong, fact_refusal, entry_in}
 use Rattle.replies.specs.declared.Refusal.{Refusal}

@@ -1,5 +1,5 @@
 -- Facts, and lists of them, in which equal facts count. Assumes nothing: these are definitions.
-use Rattle.std.specs.Prelude.{ℕ, ◌+◌, Bool, true, false, cond, ◌&&◌, List, [], ◌∷◌, ◌==◌}
+use Rattle.std.specs.Prelude.{ℕ, ◌+◌, Bool, cond, ◌&&◌, List, [], ◌∷◌, ◌==◌}
 use Rattle.hierarchy.specs.Dimensions.{Row}
 use Rattle.hierarchy.specs.Levels.{same}
 

@@ -1,5 +1,5 @@
 -- Places, one number a dimension, at levels. Assumes nothing: these are definitions.
-use Rattle.std.specs.Prelude.{List, [], ◌∷◌}
+use Rattle.std.specs.Prelude.{[], ◌∷◌}
 use Rattle.hierarchy.specs.Dimensions.{Dims, Row, up}
 use Rattle.hierarchy.specs.Levels.{finest}
 

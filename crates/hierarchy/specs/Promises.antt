@@ -1,5 +1,5 @@
 -- What levels and places promise. Each is a statement; a function's contract asks for its proof. Assumes nothing.
-use Rattle.std.specs.Prelude.{◌≡◌, ℕ, ◌+◌, ◌/◌, ◌^◌, ◌<◌, ◌≤◌, true, cond, List, [], ◌∷◌, length, None, slice_index, slice_index_or}
+use Rattle.std.specs.Prelude.{◌≡◌, ℕ, ◌+◌, ◌/◌, ◌^◌, ◌<◌, ◌≤◌, true, cond, [], ◌∷◌, length, None, slice_index, slice_index_or}
 use Rattle.hierarchy.specs.Dimensions.{Factors, Dims, Row, product, up, last_level}
 use Rattle.hierarchy.specs.Levels.{are_levels, no_coarser, finest, every, times, total_levels, nth_levels}
 use Rattle.hierarchy.specs.Places.{place_up, place_at}

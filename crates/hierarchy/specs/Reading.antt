@@ -1,5 +1,5 @@
 -- Rows of numbers read as dimensions, levels and facts, and the first fault of a row that is none. Assumes nothing: these are definitions.
-use Rattle.std.specs.Prelude.{ℕ, zero, suc, ◌+◌, ◌*◌, ◌^◌, Bool, true, false, cond, ◌&&◌, List, [], ◌∷◌, length, take, drop, Some, None, Option, nat_le, nat_lt, slice_index}
+use Rattle.std.specs.Prelude.{ℕ, zero, suc, ◌+◌, ◌*◌, ◌^◌, Bool, cond, ◌&&◌, [], ◌∷◌, length, take, drop, Some, None, Option, nat_le, nat_lt, slice_index}
 use Rattle.std.specs.Option.{option_map}
 use Rattle.hierarchy.specs.Dimensions.{Factors, Dims, Row, product, last_level}
 use Rattle.hierarchy.specs.Facts.{Entry}

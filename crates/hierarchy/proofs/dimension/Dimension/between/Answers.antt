@@ -1,5 +1,5 @@
 -- Each turn multiplies by one factor more; the product of a part is at most that of all, which is below 2^32.
-use Rattle.std.proofs.Common.{◌≡◌, ◌+◌, ◌<◌, ◌≤◌, length, take, drop, sym, ◌∙◌, arith, rules}
+use Rattle.std.proofs.Common.{◌+◌, sym, ◌∙◌, arith}
 use Rattle.hierarchy.specs.Dimensions.{product}
 use Rattle.hierarchy.specs.Views.{factors_of}
 use Rattle.hierarchy.proofs.Products.{between_step, product_between, none_between, whole_between}
@@ -9,8 +9,8 @@ pub loop-i-init : goal.loop-i-init
 unfolding product
 loop-i-init c = (sym (none_between (factors_of c.args.self) c.args.from c.args.from (omega arith)), omega arith)
 
-pub overflow-mul-product : goal.overflow-mul-product
-overflow-mul-product c =
+pub overflow_mul-product : goal.overflow_mul-product
+overflow_mul-product c =
     let step = between_step c.args.self.count c.args.self.factors c.args.from c.loop-i.i c.loop-i.product
     c.loop-i.auto.i (omega arith) c.loop-i.invariant.0 in
     omega (arith, step, product_between (factors_of c.args.self) c.args.from (c.loop-i.i + 1) (omega arith) c.args.self.positive, c.args.self.small)

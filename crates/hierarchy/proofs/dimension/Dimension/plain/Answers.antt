@@ -2,6 +2,6 @@ use Rattle.std.proofs.Common.{rules}
 use Rattle.hierarchy.specs.Dimensions.{product}
 use Rattle.hierarchy.proofs.dimension.Dimension.plain.Goals as goal
 
-pub invariant-of-result : goal.invariant-of-result
+pub invariant_of-result : goal.invariant_of-result
 unfolding product
-invariant-of-result c = search rules
+invariant_of-result c = search rules

@@ -10,11 +10,11 @@ use Rattle.hierarchy.proofs.dimension.Dimension.read.Goals as goal
 is_small : (n : ℕ) (xs : List ℕ) → true ≡ small (take ((1 + n) - 1) xs) → small (take n xs) ≡ true
 is_small n xs h = let e : (1 + n) - 1 ≡ n = omega arith in sym (rw e at h)
 
-pub invariant-of-result : goal.invariant-of-result
-invariant-of-result c =
+pub invariant_of-result : goal.invariant_of-result
+invariant_of-result c =
     let e = take_behind (get_or c.args.row.now 0 0) c.args.row.now c.if-row-gt4.false c.if-row-lt5.false in
-    let p = small_parts (factors_in c.args.row.now) (is_small (get_or c.args.row.now 0 0) (drop 1 c.args.row.now) c.if-not-product-is-small.ensures) in
-    (c.if-row-gt4.false, (rw e p.0, (rw e p.1, tt)))
+    let p = small_parts (factors_in c.args.row.now) (is_small (get_or c.args.row.now 0 0) (drop 1 c.args.row.now) c.if-not-product_is_small.ensures) in
+    record { few = c.if-row-gt4.false; positive = rw e p.0; small = rw e p.1 }
 
 pub returns : goal.returns
 returns c =

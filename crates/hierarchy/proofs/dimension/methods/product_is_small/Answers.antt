@@ -1,5 +1,5 @@
 -- A factor 0 or too large a product so far makes the whole product 0 or too large.
-use Rattle.std.proofs.Common.{◌+◌, get_or, take, sym, ap, inl, inr, arith, rules}
+use Rattle.std.proofs.Common.{◌+◌, sym, inl, inr, arith}
 use Rattle.std.proofs.lemmas.List.{take_all}
 use Rattle.hierarchy.specs.Dimensions.{product}
 use Rattle.hierarchy.proofs.Products.{product_more, bad_factor, bad_front, is_small, mul_positive}

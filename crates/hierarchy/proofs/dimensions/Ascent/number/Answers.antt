@@ -1,4 +1,4 @@
-use Rattle.std.proofs.Common.{◌≡◌, ◌<◌, length, get_or, take, sym, ap, ◌∙◌, arith, rules}
+use Rattle.std.proofs.Common.{◌≡◌, length, get_or, take, sym, ap, ◌∙◌, arith, rules}
 use Rattle.std.proofs.lemmas.List.{length-take-le, get_or-take}
 use Rattle.hierarchy.specs.Views.{carried, risen}
 use Rattle.hierarchy.proofs.Rises.{lifted_at, lifted_past}

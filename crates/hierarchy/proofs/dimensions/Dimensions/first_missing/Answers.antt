@@ -1,4 +1,4 @@
-use Rattle.std.proofs.Common.{◌≡◌, length, sym, ◌∙◌, inl, inr, arith}
+use Rattle.std.proofs.Common.{sym, ◌∙◌, inl, inr, arith}
 use Rattle.hierarchy.specs.Views.{dims_of}
 use Rattle.hierarchy.proofs.Scans.{missing_here, missing_on, missing_end}
 use Rattle.hierarchy.proofs.Widths.{dims_at, dims_length}

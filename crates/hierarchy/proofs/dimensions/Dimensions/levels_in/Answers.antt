@@ -1,4 +1,4 @@
-use Rattle.std.proofs.Common.{◌≡◌, get_or, sym, ◌∙◌, arith}
+use Rattle.std.proofs.Common.{get_or, sym, ◌∙◌, arith}
 use Rattle.hierarchy.specs.Views.{dims_of}
 use Rattle.hierarchy.proofs.Counting.{levels_there, levels_past}
 use Rattle.hierarchy.proofs.Widths.{dims_at, dims_length, few_factors}

@@ -1,4 +1,4 @@
-use Rattle.std.proofs.Common.{◌≡◌, sym, ap, ◌∙◌}
+use Rattle.std.proofs.Common.{ap, ◌∙◌}
 use Rattle.hierarchy.specs.Dimensions.{four}
 use Rattle.hierarchy.specs.Places.{place_at}
 use Rattle.hierarchy.specs.Views.{dims_of}

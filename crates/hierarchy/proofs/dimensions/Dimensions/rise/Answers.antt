@@ -1,5 +1,4 @@
-use Rattle.std.proofs.Common.{◌≡◌, get_or, sym, ap, ◌∙◌, arith}
-use Rattle.hierarchy.specs.Dimensions.{up}
+use Rattle.std.proofs.Common.{arith}
 use Rattle.hierarchy.proofs.Widths.{dims_at, dims_length}
 use Rattle.hierarchy.proofs.dimensions.Dimensions.rise.Goals as goal
 

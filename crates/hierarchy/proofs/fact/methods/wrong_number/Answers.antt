@@ -1,4 +1,4 @@
-use Rattle.std.proofs.Common.{◌≡◌, ◌+◌, Some, sym, ap, ◌∙◌, inl, inr, arith}
+use Rattle.std.proofs.Common.{◌≡◌, Some, sym, ap, ◌∙◌, inl, inr, arith}
 use Rattle.hierarchy.proofs.Scans.{wrong_here, wrong_on, wrong_more, wrong_end}
 use Rattle.hierarchy.proofs.fact.methods.wrong_number.Goals as goal
 use Rattle.hierarchy.proofs.fact.methods.wrong_number.Goals.{then-i-row-via-then-i-row, then-i-row-via-else-i-row+then-row-i-ge-LIMIT}

@@ -1,4 +1,4 @@
-use Rattle.std.proofs.Common.{◌≡◌, ◌<◌, ◌≤◌, length, get_or, take, sym, ◌∙◌, arith, rules}
+use Rattle.std.proofs.Common.{◌≡◌, ◌<◌, ◌≤◌, length, sym, ◌∙◌, arith, rules}
 use Rattle.std.proofs.lemmas.List.{length-take-le, get_or-take}
 use Rattle.hierarchy.specs.Views.{dims_of, levels_of}
 use Rattle.hierarchy.specs.declared.dimensions.Dimensions.{Dimensions}

@@ -1,4 +1,4 @@
-use Rattle.std.proofs.Common.{◌≡◌, ◌≤◌, length, take, sym, inl, inr, arith}
+use Rattle.std.proofs.Common.{◌≤◌, length, take, sym, inl, inr, arith}
 use Rattle.std.proofs.lemmas.List.{get_or-take, get_or_past, length-take}
 use Rattle.hierarchy.proofs.levels.methods.number_or_0.Goals as goal
 
