@@ -1,9 +1,9 @@
 -- Places are in a total order: `before` is irreflexive and transitive, and of two that are not the same one is before the other. Assumes nothing.
-use Rattle.std.proofs.Common.{◌≡◌, ℕ, ◌<◌, Bool, true, false, ◌&&◌, eqb, ltb, ◌⊎◌, [], ◌∷◌, sym, refl, ◌∙◌, subst, inl, inr, arith}
-use Rattle.std.proofs.lemmas.Bool.{ltb-true, lt-ltb, eqb-true, eq-eqb, and_parts, and_from, or_cases, or_left, or_right, true≢false, both_ways, cases_order, cases_Bool}
+use Rattle.std.proofs.Common.{◌≡◌, ℕ, ◌<◌, true, false, ◌&&◌, eqb, ltb, ◌⊎◌, [], ◌∷◌, sym, refl, ◌∙◌, subst, inl, inr, arith}
+use Rattle.std.proofs.lemmas.Bool.{ltb-true, lt-ltb, eqb-true, eq-eqb, and_parts, and_from, or_cases, or_left, or_right, both_ways, cases_order, cases_Bool}
 use Rattle.hierarchy.specs.Dimensions.{Row}
 use Rattle.hierarchy.specs.Levels.{same}
-use Rattle.hierarchy.proofs.Rows.{same_is, is_same, not_same, same_refl, same_sym}
+use Rattle.hierarchy.proofs.Rows.{not_same, same_sym}
 use Rattle.totals.specs.Tables.{before}
 
 -- the first number that differs decides

@@ -1,10 +1,10 @@
 -- Facts and tables by what is counted in them, place by place. Assumes nothing: these are definitions.
-use Rattle.std.specs.Prelude.{ℕ, ◌+◌, Bool, true, false, cond, ◌&&◌, ◌||◌, List, [], ◌∷◌}
+use Rattle.std.specs.Prelude.{cond, List, [], ◌∷◌}
 use Rattle.hierarchy.specs.Dimensions.{Dims, Row}
 use Rattle.hierarchy.specs.Levels.{same}
 use Rattle.hierarchy.specs.Facts.{Entry}
 use Rattle.hierarchy.specs.Places.{place_at}
-use Rattle.totals.specs.Tables.{Measure, Cell, Table, one, join}
+use Rattle.totals.specs.Tables.{Measure, Table, one, join}
 
 abbrev pub nothing : Measure
 nothing = record { count = 0; sum = 0 }

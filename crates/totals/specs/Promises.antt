@@ -1,10 +1,10 @@
 -- What tables of totals promise. Each is a statement; a function's contract asks for its proof. Assumes nothing.
-use Rattle.std.specs.Prelude.{◌≡◌, ℕ, ◌<◌, ◌≤◌, true, List, [], ◌∷◌, length, slice_index_or}
+use Rattle.std.specs.Prelude.{◌≡◌, ℕ, ◌<◌, ◌≤◌, true, List, length, slice_index_or}
 use Rattle.hierarchy.specs.Dimensions.{Dims, Row}
 use Rattle.hierarchy.specs.Levels.{no_coarser}
 use Rattle.hierarchy.specs.Facts.{Entry, copies, without}
 use Rattle.hierarchy.specs.Places.{place_at}
-use Rattle.totals.specs.Tables.{Measure, Cell, Table, one, before, put, take_out, table, rolled}
+use Rattle.totals.specs.Tables.{Cell, Table, one, before, put, take_out, table, rolled}
 use Rattle.totals.specs.Counts.{at, belonging, total, all_facts}
 
 -- a coarser table made of a finer one is the table of the facts

@@ -9,8 +9,8 @@ loop-low-init c =
     let n = table_length c.args.self.width c.args.row.now in
     (omega arith, omega (arith, c.count-high.ensures), λ j h. absurd (omega arith), λ j h k. absurd (omega (arith, c.count-high.ensures)))
 
-pub compare-at-requires : goal.compare-at-requires
-compare-at-requires c =
+pub compare_at-requires : goal.compare_at-requires
+compare_at-requires c =
     let n = table_length c.args.self.width c.args.row.now in (c.requires.whole, omega arith)
 
 pub loop-low-preserved-in-Less : goal.loop-low-preserved-in-Less
@@ -43,14 +43,14 @@ returns c =
     let e : c.loop-low.high ≤ c.loop-low.low = omega arith in
     (omega arith, c.loop-low.invariant.2, λ j h k. c.loop-low.invariant.3 j (omega arith) k)
 
-pub overflow-add-middle : goal.overflow-add-middle
-overflow-add-middle c =
+pub overflow_add-middle : goal.overflow_add-middle
+overflow_add-middle c =
     let n = table_length c.args.self.width c.args.row.now in
     let f = c.type-inv.row c.args.self.width in
     search rules
 
-pub overflow-add-low : goal.overflow-add-low
-overflow-add-low c =
+pub overflow_add-low : goal.overflow_add-low
+overflow_add-low c =
     let n = table_length c.args.self.width c.args.row.now in
     let f = c.type-inv.row c.args.self.width in
     search rules

@@ -4,10 +4,10 @@ use Rattle.summary.proofs.Rows.{table_length}
 use Rattle.summary.proofs.Checked.{good_sound}
 use Rattle.summary.proofs.shape.Shape.first_bad_group.Goals as goal
 
-pub returns-then-is-bad : goal.returns-then-is-bad
-returns-then-is-bad c =
+pub returns-then-is_bad : goal.returns-then-is_bad
+returns-then-is_bad c =
     let n = table_length c.args.self.width c.args.row.now in
-    (omega arith, sym c.is-bad.ensures ∙ c.if-is-bad.true, c.loop-i.invariant)
+    (omega arith, sym c.is_bad.ensures ∙ c.if-is_bad.true, c.loop-i.invariant)
 
 pub returns : goal.returns
 returns c =

@@ -5,15 +5,15 @@ use Rattle.summary.specs.Memory.{count_in, start, stride, cell_of}
 use Rattle.summary.proofs.Rows.{row_inserted}
 use Rattle.summary.proofs.shape.Shape.insert.Goals as goal
 
-pub copy-within-requires : goal.copy-within-requires
-copy-within-requires c =
+pub copy_within-requires : goal.copy_within-requires
+copy_within-requires c =
     let w = c.args.self.width in
     let n = count_in w c.args.row.now in
     let e = c.count-n.ensures in
     let last = c.start-end.ensures in
     let end : c.start-end.result ≡ start w n = cc in
     let h = place_le (stride w) c.args.i n c.requires.1 in
-    record { start-le-end = omega (arith, h); in_bounds = omega (arith, h); dest-in-bounds = omega (arith, h); not-exhausted = tt }
+    record { start_le_end = omega (arith, h); in_bounds = omega (arith, h); dest_in_bounds = omega (arith, h); not_exhausted = tt }
 
 pub write-requires : goal.write-requires
 write-requires c =
@@ -23,7 +23,7 @@ write-requires c =
     let last = c.start-end.ensures in
     let end : c.start-end.result ≡ start w n = cc in
     let h = place_le (stride w) c.args.i n c.requires.1 in
-    omega (arith, h, c.copy-within.ensures.len)
+    omega (arith, h, c.copy_within.ensures.len)
 
 pub returns : goal.returns
 returns c =
@@ -35,7 +35,7 @@ returns c =
     let b = c.start-end.ensures in
     let end : c.start-end.result ≡ start w n = cc in
     let s = c.stride-stride.ensures in
-    let p = c.copy-within.ensures.after in
+    let p = c.copy_within.ensures.after in
     let q = c.write.ensures in
     let four : length c.args.group.place ≡ 4 = search rules in
     let long : length (take w c.args.group.place) ≡ w = omega (arith, length-take w c.args.group.place) in

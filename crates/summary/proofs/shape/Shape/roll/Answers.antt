@@ -24,14 +24,14 @@ pub append-requires : goal.append-requires
 append-requires c =
     let four : length c.args.levels.at ≡ 4 = search rules in
     let four-place : length c.group-group.result.place ≡ 4 = search rules in
-    let r = turn c.args.self.width (dims_of c.args.dims.now) c.args.from.now c.args.to.now c.begin.new.row c.loop-i.to c.padded-at.result c.args.levels.at c.ascent-ascent.result c.group-group.result c.raised.result c.loop-i.i c.requires.width c.args.self.most c.requires.sound four c.requires.room c.requires.count-fits c.requires.sum-fits c.begin.ensures c.padded-at.ensures c.ascent-ascent.ensures c.group-group.ensures.cell four-place c.raised.ensures (omega arith) c.loop-i.invariant in
+    let r = turn c.args.self.width (dims_of c.args.dims.now) c.args.from.now c.args.to.now c.begin.new.row c.loop-i.to c.padded-at.result c.args.levels.at c.ascent-ascent.result c.group-group.result c.raised.result c.loop-i.i c.requires.width c.args.self.most c.requires.sound four c.requires.room c.requires.count_fits c.requires.sum_fits c.begin.ensures c.padded-at.ensures c.ascent-ascent.ensures c.group-group.ensures.cell four-place c.raised.ensures (omega arith) c.loop-i.invariant in
     record { sound = r.0; fits = r.1 }
 
 pub loop-i-preserved : goal.loop-i-preserved
 loop-i-preserved c =
     let four : length c.args.levels.at ≡ 4 = search rules in
     let four-place : length c.group-group.result.place ≡ 4 = search rules in
-    let r = turn c.args.self.width (dims_of c.args.dims.now) c.args.from.now c.args.to.now c.begin.new.row c.loop-i.to c.padded-at.result c.args.levels.at c.ascent-ascent.result c.group-group.result c.raised.result c.loop-i.i c.requires.width c.args.self.most c.requires.sound four c.requires.room c.requires.count-fits c.requires.sum-fits c.begin.ensures c.padded-at.ensures c.ascent-ascent.ensures c.group-group.ensures.cell four-place c.raised.ensures (omega arith) c.loop-i.invariant in
+    let r = turn c.args.self.width (dims_of c.args.dims.now) c.args.from.now c.args.to.now c.begin.new.row c.loop-i.to c.padded-at.result c.args.levels.at c.ascent-ascent.result c.group-group.result c.raised.result c.loop-i.i c.requires.width c.args.self.most c.requires.sound four c.requires.room c.requires.count_fits c.requires.sum_fits c.begin.ensures c.padded-at.ensures c.ascent-ascent.ensures c.group-group.ensures.cell four-place c.raised.ensures (omega arith) c.loop-i.invariant in
     let told : c.append.result ≡ true = c.append.ensures.told ∙ r.2 in
     let w = c.args.self.width in
     let after : c.append.new.row ≡ holding w (put_in w c.raised.result c.loop-i.to) c.loop-i.to = rw told at c.append.ensures.after in
