@@ -46,11 +46,11 @@ returns c =
 pub overflow_add-middle : goal.overflow_add-middle
 overflow_add-middle c =
     let n = table_length c.args.self.width c.args.row.now in
-    let f = c.type-inv.row c.args.self.width in
+    let f = c.type_inv.row c.args.self.width in
     search rules
 
 pub overflow_add-low : goal.overflow_add-low
 overflow_add-low c =
     let n = table_length c.args.self.width c.args.row.now in
-    let f = c.type-inv.row c.args.self.width in
+    let f = c.type_inv.row c.args.self.width in
     search rules

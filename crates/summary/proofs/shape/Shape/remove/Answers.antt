@@ -1,5 +1,5 @@
 use Rattle.std.proofs.Common.{◌≡◌, arith}
-use Rattle.summary.specs.Memory.{count_in, start, stride}
+use Rattle.summary.specs.Memory.{count_in, start}
 use Rattle.summary.proofs.Rows.{group_end, row_removed}
 use Rattle.summary.proofs.shape.Shape.remove.Goals as goal
 
