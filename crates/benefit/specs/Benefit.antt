@@ -1,5 +1,5 @@
 -- What kept tables save, and the greedy choice. Sizes are a function of levels: how many groups the table there has. Assumes nothing.
-use Rattle.std.specs.Prelude.{ℕ, zero, suc, ◌-◌, Bool, true, false, cond, List, [], ◌∷◌, sum_by, nat_lt}
+use Rattle.std.specs.Prelude.{ℕ, zero, suc, ◌-◌, cond, List, [], ◌∷◌, sum_by, nat_lt}
 use Rattle.hierarchy.specs.Dimensions.{Dims, Row}
 use Rattle.hierarchy.specs.Levels.{finest, every}
 use Rattle.totals.specs.Cost.{cost}

@@ -189,7 +189,7 @@ pub record Bounded (es : List Entry) (t : Table) : Type 0 where
 pub cells_bounded : (ss : Dims) (h : House) → Sound ss h → All (Whole ss) h.facts
     → (i : ℕ) (d : Kept) → i < length h.kept → Bounded h.facts (get_or h.kept i d).cells
 cells_bounded ss h s w i d l =
-    let small = All-weaker (Whole ss) (λ e. e.amount ≤ 2 ^ 32 - 1) (λ e f. omega (arith, f.amount-small)) h.facts w in
+    let small = All-weaker (Whole ss) (λ e. e.amount ≤ 2 ^ 32 - 1) (λ e f. omega (arith, f.amount_small)) h.facts w in
     let b = table_bounded ss (get_or h.kept i d).levels (2 ^ 32 - 1) h.facts small in
     rw (s.right i d l)
     (record {

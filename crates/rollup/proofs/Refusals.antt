@@ -1,12 +1,12 @@
 -- What is refused first, case by case. Assumes nothing.
-use Rattle.std.proofs.Common.{◌≡◌, ℕ, zero, suc, ◌+◌, ◌-◌, ◌/◌, ◌<◌, ◌≤◌, Bool, true, false, leb, ◌⊎◌, length, get_or, Some, None, sym, refl, ap, inl, inr, mul_comm, le-div_iff_mul-le, arith}
+use Rattle.std.proofs.Common.{◌≡◌, ℕ, zero, suc, ◌+◌, ◌<◌, ◌≤◌, Bool, true, false, leb, ◌⊎◌, length, get_or, Some, None, refl, ap, inl, inr, arith}
 use Rattle.std.proofs.lemmas.Bool.{cases_lt, le-leb, lt-leb, lt-ltb, le-ltb, and_from, and_left, and_right}
 use Rattle.hierarchy.specs.Dimensions.{Dims, Row}
 use Rattle.hierarchy.specs.Reading.{dims_in, dims_refusal, first_missing}
 use Rattle.replies.specs.declared.Refusal.{Refusal}
 use Rattle.replies.specs.declared.Refusal.TheVariants.{BadTable, BadTableLevel, BadGroup, NoRoom}
 use Rattle.hierarchy.proofs.Scans.{some_none}
-use Rattle.summary.specs.Memory.{stride, start, count_in, table_in, bad, AllGood, FirstBad}
+use Rattle.summary.specs.Memory.{start, count_in, table_in, bad, AllGood, FirstBad}
 use Rattle.rollup.specs.Entry.{first_from, has_groups, most_groups, table_refusal, reach_refusal, room_refusal, roll_refusal}
 
 -- what passes a test first

@@ -53,7 +53,7 @@ whole_prop : (ss : Dims) (e : Entry) → IsProp (Whole ss e)
 whole_prop ss e p q =
     let wide : IsProp (length e.place ≡ length ss) = hlevel props in
     let small : IsProp ((j : ℕ) → j < length ss → get_or e.place j 0 < 2 ^ 32) = hlevel props in
-    λ i. record { wide = wide p.wide q.wide i; small = small p.small q.small i; amount_small = le_prop p.amount-small q.amount-small i }
+    λ i. record { wide = wide p.wide q.wide i; small = small p.small q.small i; amount_small = le_prop p.amount_small q.amount_small i }
 
 sound_prop : (ss : Dims) (h : House) → IsProp (Sound ss h)
 sound_prop ss h p q =

@@ -30,16 +30,16 @@ returns-then-groups-room c =
       | then-groups-room-via-else-groups-room+then-not-fits way ↦
           groups_missing w c.args.room c.args.row.now v e (inr (sym way.fits.ensures ∙ way.if-not-fits.true))
     ] in
-    no_groups (dims_of c.args.dims.now) c.args.room c.args.row.now w c.of-shape.ensures (omega arith) (sym c.in-default.ensures) missing
+    no_groups (dims_of c.args.dims.now) c.args.room c.args.row.now w c.of-shape.ensures (omega arith) (sym c.in_default.ensures) missing
     ∙ ap (λ k. Some (BadTable k)) (sym e)
 
-pub returns-in-Some-first-bad-group : goal.returns-in-Some-first-bad-group
-returns-in-Some-first-bad-group c =
+pub returns-in-Some-first_bad_group : goal.returns-in-Some-first_bad_group
+returns-in-Some-first_bad_group c =
     let w = c.of-shape.result.width in
     let e = c.width-width.ensures in
     let there = groups_there w c.args.room c.args.row.now c.width-width.result e c.if-groups-room.false (sym c.if-not-fits.ensures) in
-    bad_group (dims_of c.args.dims.now) c.args.room c.args.row.now w c.of-shape.ensures (omega arith) (sym c.in-default.ensures) there
-    c.in-Some-first-bad-group.group c.in-Some-first-bad-group.ensures
+    bad_group (dims_of c.args.dims.now) c.args.room c.args.row.now w c.of-shape.ensures (omega arith) (sym c.in_default.ensures) there
+    c.in-Some-first_bad_group.group c.in-Some-first_bad_group.ensures
 
 pub returns-in-None : goal.returns-in-None
 returns-in-None c =
@@ -48,6 +48,6 @@ returns-in-None c =
     let is = c.of-shape.ensures in
     let h = c.in-None.ensures in
     let there = groups_there w c.args.room c.args.row.now c.width-width.result e c.if-groups-room.false (sym c.if-not-fits.ensures) in
-    let good = all_good (dims_of c.args.dims.now) c.args.room c.args.row.now w is (omega arith) (sym c.in-default.ensures) there h.1 in
+    let good = all_good (dims_of c.args.dims.now) c.args.room c.args.row.now w is (omega arith) (sym c.in_default.ensures) there h.1 in
     let v-is : c.width-width.result ≡ length (dims_of c.args.dims.now) = e ∙ is in
     (good, ap (λ k. count_in k c.args.row.now) v-is, c.if-groups-room.false, rw is at h.0, rw is at h.1)

@@ -25,20 +25,20 @@ loop-i-preserved c j h l =
     let e = entry_of w c.args.fact in
     let i = c.loop-i.i - 1 in
     let here : same_fact e (get_or (in_order w xs) i nothing) ≡ false =
-    read w i xs e c.part.result.now false (omega (arith, c.count-i.ensures)) c.part.ensures.0 c.if-is-fact.ensures in
+    read w i xs e c.part.result.now false (omega (arith, c.count-i.ensures)) c.part.ensures.0 c.if-is_fact.ensures in
     elim (cases_lt j c.loop-i.i) [
       | inl a ↦ let k : i ≡ j = omega arith in subst (λ (m : ℕ). same_fact e (get_or (in_order w xs) m nothing) ≡ false) k here
       | inr b ↦ c.loop-i.invariant j b l
     ]
 
-pub returns-then-is-fact : goal.returns-then-is-fact
-returns-then-is-fact c =
+pub returns-then-is_fact : goal.returns-then-is_fact
+returns-then-is_fact c =
     let w = c.args.self.width in
     let xs = c.args.row.now in
     let i = c.loop-i.i - 1 in
     let there : i < count_in xs = omega (arith, c.count-i.ensures) in (
       omega (arith, order_length w xs),
-      read w i xs (entry_of w c.args.fact) c.part.result.now true there c.part.ensures.0 c.if-is-fact.ensures,
+      read w i xs (entry_of w c.args.fact) c.part.result.now true there c.part.ensures.0 c.if-is_fact.ensures,
       λ j h l. c.loop-i.invariant j (omega arith) l,
     )
 

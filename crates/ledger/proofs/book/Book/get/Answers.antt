@@ -7,4 +7,4 @@ pub returns : goal.returns
 returns c =
     let w = c.args.self.width in
     let h = entry_at w c.args.i c.args.row.now c.requires.1 in
-    record { fact = c.read-part.ensures.fact ∙ (ap (entry_in w) c.part.ensures.0 ∙ sym h); rest = c.read-part.ensures.rest }
+    record { fact = c.read_part.ensures.fact ∙ (ap (entry_in w) c.part.ensures.0 ∙ sym h); rest = c.read_part.ensures.rest }
