@@ -14,7 +14,7 @@ use Rattle.storage.specs.declared.layout.Layout.{Layout}
 use Rattle.hierarchy.specs.Views.{dims_of}
 use Rattle.hierarchy.specs.declared.dimensions.Dimensions.{Dimensions}
 use Rattle.hierarchy.specs.Reading.{dims_refusal}
-use Rattle.hierarchy.specs.Reading.{dims_in as read-dims}
+use Rattle.hierarchy.specs.Reading.{dims_in as read_dims}
 use Rattle.formats.specs.Bytes.{Bytes, sides_of, behind_sides}
 use Rattle.journal.specs.Days.{day_deeds, text_or_refusal, whole_or_refused, day_text, day_whole}
 use Rattle.journal.specs.Deeds.{deed_of, deeds_in, is_deed, is_whole, whole_past}
@@ -131,15 +131,15 @@ begun house layout dims lim w n bs t a b c d f =
     ∙ ap (λ (v : ℕ). t ++ replies (dims_of dims) lim (empty (dims_of dims)) (deeds_in v n bs)) f))
 
 -- the whole day
-pub day_done : (lim : Limits) (n : ℕ) (bs part : Bytes) (row text : List ℕ) (whole : Bool) (dims : Dimensions) → row ≡ sides_of bs → dims_refusal row ≡ None → dims_of dims ≡ read-dims row
+pub day_done : (lim : Limits) (n : ℕ) (bs part : Bytes) (row text : List ℕ) (whole : Bool) (dims : Dimensions) → row ≡ sides_of bs → dims_refusal row ≡ None → dims_of dims ≡ read_dims row
     → part ≡ behind_sides bs → text ≡ replies (dims_of dims) lim (empty (dims_of dims)) (deeds_in (length (dims_of dims)) n part)
     → whole ≡ is_whole (length (dims_of dims)) part → (text ≡ day_text lim n bs) × (whole ≡ day_whole bs)
 day_done lim n bs part row text whole dims a none b c t w =
-    let ss : dims_of dims ≡ read-dims (sides_of bs) = b ∙ ap read-dims a in
+    let ss : dims_of dims ≡ read_dims (sides_of bs) = b ∙ ap read_dims a in
     let good : dims_refusal (sides_of bs) ≡ None = ap dims_refusal (sym a) ∙ none in
     let x = t ∙ (ap (λ (zs : Dims). replies zs lim (empty zs) (deeds_in (length zs) n part)) ss
-    ∙ ap (λ (ys : Bytes). replies (read-dims (sides_of bs)) lim (empty (read-dims (sides_of bs))) (deeds_in (length (read-dims (sides_of bs))) n ys)) c) in
-    let y = w ∙ (ap (λ (zs : Dims). is_whole (length zs) part) ss ∙ ap (λ (ys : Bytes). is_whole (length (read-dims (sides_of bs))) ys) c) in (
-      x ∙ sym (ap (λ (o : Option Refusal). text_or_refusal o (replies (read-dims (sides_of bs)) lim (empty (read-dims (sides_of bs))) (day_deeds n bs))) good),
-      y ∙ sym (ap (λ (o : Option Refusal). whole_or_refused o (is_whole (length (read-dims (sides_of bs))) (behind_sides bs))) good),
+    ∙ ap (λ (ys : Bytes). replies (read_dims (sides_of bs)) lim (empty (read_dims (sides_of bs))) (deeds_in (length (read_dims (sides_of bs))) n ys)) c) in
+    let y = w ∙ (ap (λ (zs : Dims). is_whole (length zs) part) ss ∙ ap (λ (ys : Bytes). is_whole (length (read_dims (sides_of bs))) ys) c) in (
+      x ∙ sym (ap (λ (o : Option Refusal). text_or_refusal o (replies (read_dims (sides_of bs)) lim (empty (read_dims (sides_of bs))) (day_deeds n bs))) good),
+      y ∙ sym (ap (λ (o : Option Refusal). whole_or_refused o (is_whole (length (read_dims (sides_of bs))) (behind_sides bs))) good),
     )

@@ -1,8 +1,7 @@
 -- When a fact may be deleted, and the warehouse after it. Assumes nothing.
-use Rattle.std.proofs.Common.{◌≡◌, ℕ, ◌<◌, ◌≤◌, Bool, true, false, ltb, List, [], ◌∷◌, map, length, get_or, take, is_ok, Some, None, Ok, Err, Result, sym, refl, ap, ◌∙◌, subst, inl, inr, arith}
+use Rattle.std.proofs.Common.{◌≡◌, ℕ, ◌<◌, ◌≤◌, Bool, true, false, ltb, List, [], ◌∷◌, map, length, get_or, take, is_ok, Some, None, Ok, Err, Result, sym, refl, ap, ◌∙◌, inl, inr, arith}
 use Rattle.std.proofs.lemmas.Bool.{cases_lt, true≢false, ltb-true, ltb-false, eq-eqb, ne_eqb, or_left, or_right, both_ways}
 use Rattle.hierarchy.specs.Dimensions.{Dims, Row}
-use Rattle.hierarchy.specs.Levels.{same}
 use Rattle.hierarchy.specs.Facts.{Entry, copies, without}
 use Rattle.hierarchy.specs.Places.{place_at}
 use Rattle.hierarchy.specs.Reading.{fact_refusal, entry_in}

@@ -22,7 +22,7 @@ use Rattle.storage.proofs.Rebuilt.{does_done}
 use Rattle.model.proofs.Sound.{full_none}
 use Rattle.model.proofs.Steps.{insert_done}
 use Rattle.ledger.specs.Book.{facts_in, in_order, Holds}
-use Rattle.ledger.specs.Book.{count_in as count-in-book}
+use Rattle.ledger.specs.Book.{count_in as count_in_book}
 use Rattle.ledger.proofs.Rows.{order_length}
 use Rattle.hierarchy.specs.Dimensions.{four}
 use Rattle.hierarchy.specs.Views.{entry_of}
@@ -66,21 +66,21 @@ module _ (l : Layout) (book tables : List ℕ) (m : Memory l book tables) where
       ap (λ (k : Kept). k.cells) (sym is) ∙ right ∙ ap (λ (ls : Row). table (sides l) ls (facts_in (wide l) book)) levels in
       rw (a, b) (sym (table_more (sides l) (finest (sides l)) e (facts_in (wide l) book)))
 
-  pub facts_length : length (facts_in (wide l) book) ≡ count-in-book book
+  pub facts_length : length (facts_in (wide l) book) ≡ count_in_book book
   facts_length = length-reverse (in_order (wide l) book) ∙ order_length (wide l) book
 
   module _ (xs : Row) (none : fact_refusal (sides l) xs ≡ None) where
-    pub full_refused : true ≡ eqb (count-in-book book) l.book.room → refusal (sides l) (limits l) (house_in l book tables) (insert xs) ≡ Some (LedgerFull l.book.room)
+    pub full_refused : true ≡ eqb (count_in_book book) l.book.room → refusal (sides l) (limits l) (house_in l book tables) (insert xs) ≡ Some (LedgerFull l.book.room)
     full_refused full =
-        let e = eqb-true (count-in-book book) l.book.room (sym full) in
+        let e = eqb-true (count_in_book book) l.book.room (sym full) in
         rw (none, le-leb l.book.room (length (facts_in (wide l) book)) (omega (arith, facts_length)))
 
-    free : false ≡ eqb (count-in-book book) l.book.room → leb l.book.room (length (facts_in (wide l) book)) ≡ false
+    free : false ≡ eqb (count_in_book book) l.book.room → leb l.book.room (length (facts_in (wide l) book)) ≡ false
     free room =
-        let n = eqb-false (count-in-book book) l.book.room (sym room) in
+        let n = eqb-false (count_in_book book) l.book.room (sym room) in
         lt-leb l.book.room (length (facts_in (wide l) book)) (omega (arith, facts_length, m.valid.few))
 
-    pub room_decides : (v : Bool) → false ≡ eqb (count-in-book book) l.book.room
+    pub room_decides : (v : Bool) → false ≡ eqb (count_in_book book) l.book.room
         → v ≡ leb (length (with_fact (sides l) (entry_in (sides l) xs) (kept_in (wide l) (part (part_size l) 0 tables))).cells) l.tables.groups
         → refusal (sides l) (limits l) (house_in l book tables) (insert xs) ≡ cond v None (Some (TableFull 0))
     room_decides v room takes =
@@ -88,7 +88,7 @@ module _ (l : Layout) (book tables : List ℕ) (m : Memory l book tables) where
         insert_refusal (sides l) (limits l) (house_in l book tables) xs m.valid.sound ∙ rw (none, free room, ← t)
 
     -- as the code has it, of the fact that was read and the part that was lent
-    pub room_by : (v : Bool) (e : Entry) (p : List ℕ) → e ≡ entry_in (sides l) xs → p ≡ part (part_size l) 0 tables → false ≡ eqb (count-in-book book) l.book.room
+    pub room_by : (v : Bool) (e : Entry) (p : List ℕ) → e ≡ entry_in (sides l) xs → p ≡ part (part_size l) 0 tables → false ≡ eqb (count_in_book book) l.book.room
         → v ≡ leb (length (with_fact (sides l) e (kept_in (wide l) p)).cells) l.tables.groups
         → refusal (sides l) (limits l) (house_in l book tables) (insert xs) ≡ cond v None (Some (TableFull 0))
     room_by v e p a b room takes =
@@ -103,7 +103,7 @@ module _ (l : Layout) (book tables : List ℕ) (m : Memory l book tables) (xs : 
   known = insert_done (sides l) (limits l) (house_in l book tables) xs accepted
 
   -- there is room in the book
-  pub book_free : count-in-book book < l.book.room
+  pub book_free : count_in_book book < l.book.room
   book_free = rw (facts_length l book tables m) at known.1
 
   pub few_kept : get_or tables 0 0 ≤ 16

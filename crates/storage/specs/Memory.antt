@@ -6,7 +6,7 @@ use Rattle.replies.specs.declared.Refusal.{Refusal}
 use Rattle.replies.specs.declared.Reply.{Reply}
 use Rattle.replies.specs.declared.Reply.TheVariants.{Done, Shown, Refused}
 use Rattle.ledger.specs.Book.{Holds, facts_in}
-use Rattle.ledger.specs.Book.{start as start-in-book}
+use Rattle.ledger.specs.Book.{start as start_in_book}
 use Rattle.summary.specs.Memory.{row_over}
 use Rattle.summary.specs.Memory as summary
 use Rattle.model.specs.House.{House, Limits, Deed, Told, done, shown, refused, step, told}
@@ -27,11 +27,11 @@ limits l = record { facts = l.book.room; groups = l.tables.groups }
 
 -- how many numbers the book takes
 abbrev pub book_size : Layout → ℕ
-book_size l = start-in-book l.book.width l.book.room
+book_size l = start_in_book l.book.width l.book.room
 
 -- how many numbers a part takes
 abbrev pub part_size : Layout → ℕ
-part_size l = tables.part-size l.tables
+part_size l = tables.part_size l.tables
 
 abbrev pub house_in : Layout → List ℕ → List ℕ → House
 house_in l book tables = record { facts = facts_in (wide l) book; kept = tables_in (wide l) (part_size l) tables }

@@ -11,7 +11,7 @@ use Rattle.hierarchy.proofs.Fronts.{place_up_take}
 use Rattle.hierarchy.proofs.Laws.{place_at_length}
 use Rattle.hierarchy.proofs.Parts.{place_le}
 use Rattle.totals.specs.Tables.{Measure, Table, one, put, take_out, before}
-use Rattle.totals.specs.Counts.{at, total}
+use Rattle.totals.specs.Counts.{total}
 use Rattle.summary.specs.Memory.{start, stride, count_in, table_in, holding, held, cell_of, put_in, can_put, PutFits}
 use Rattle.summary.specs.Memory as summary
 use Rattle.summary.specs.declared.group.Group.{Group}

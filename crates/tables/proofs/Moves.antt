@@ -51,7 +51,7 @@ pub rolled_kept : (w : ℕ) (ss : Dims) (ls from to ys : List ℕ) → length ss
 rolled_kept w ss ls from to ys a b s e =
     let t = rolled_in w ss ls from in
     let long : length (take w from) ≡ w = length-take-le w from (omega (arith, s.whole)) in
-    let wide-t = wide_rolled w ss (take w from) ls (summary.table-in w from) a long b (wide_table w from s.whole) in
+    let wide-t = wide_rolled w ss (take w from) ls (summary.table_in w from) a long b (wide_table w from s.whole) in
     let p = levels_row w ls b t (drop (start w (length t)) to) in
     let q = table_row w ls b t (drop (start w (length t)) to) wide-t in
     cc

@@ -41,8 +41,8 @@ part_prop : (w : ℕ) (xs : List ℕ) → IsProp (summary.Sound w xs)
 part_prop w xs p q =
     λ i. record {
       whole = le_prop p.whole q.whole i;
-      ordered = ordered_prop (summary.table-in w xs) p.ordered q.ordered i;
-      filled = filled_prop (summary.table-in w xs) p.filled q.filled i;
+      ordered = ordered_prop (summary.table_in w xs) p.ordered q.ordered i;
+      filled = filled_prop (summary.table_in w xs) p.filled q.filled i;
     }
 
 all_prop : {X : Type 0} (P : X → Type 0) → ((x : X) → IsProp (P x)) → (xs : List X) → IsProp (All P xs)

@@ -21,8 +21,8 @@ levels-init c = leading_none (dims_of c.args.dims.now) c.args.sizes.now c.turns.
 pub questions-init : goal.questions-init
 questions-init c = asked_none (dims_of c.args.dims.now) c.args.sizes.now c.turns.costs c.levels.i c.total-costly.result c.total-costly.ensures
 
-pub overflow-add-gain : goal.overflow-add-gain
-overflow-add-gain c =
+pub overflow_add-gain : goal.overflow_add-gain
+overflow_add-gain c =
     omega (
       arith,
       asked_fits (dims_of c.args.dims.now) c.args.sizes.now c.turns.costs c.levels.i c.questions.q c.questions.gain c.questions.left c.questions.invariant (omega (arith, c.turns.invariant.long)),
@@ -35,15 +35,15 @@ levels-preserved-then-gain-left c =
     leading_skip (dims_of c.args.dims.now) c.args.sizes.now c.turns.costs c.levels.i c.levels.best c.levels.most c.questions.q
     c.questions.gain c.questions.left c.levels.invariant c.questions.invariant (omega (arith, c.turns.invariant.long)) c.if-gain-left.true
 
-pub overflow-sub-left : goal.overflow-sub-left
-overflow-sub-left c =
+pub overflow_sub-left : goal.overflow_sub-left
+overflow_sub-left c =
     asked_left (dims_of c.args.dims.now) c.args.sizes.now c.turns.costs c.levels.i c.questions.q c.questions.gain c.questions.left
     c.questions.invariant (omega (arith, c.turns.invariant.long))
 
-pub overflow-add-gain-in-questions : goal.overflow-add-gain-in-questions
-overflow-add-gain-in-questions c =
+pub overflow_add-gain-in-questions : goal.overflow_add-gain-in-questions
+overflow_add-gain-in-questions c =
     let next = asked_more (dims_of c.args.dims.now) c.args.all.now c.args.sizes.now c.turns.costs c.levels.i c.questions.q c.questions.gain
-    c.questions.left c.taken-off-gain.result _ _ c.requires.all c.levels-test.true c.questions-test.true (omega (arith, c.turns.invariant.long)) c.questions.invariant c.taken-off-gain.ensures in
+    c.questions.left c.taken_off-gain.result _ _ c.requires.all c.levels-test.true c.questions-test.true (omega (arith, c.turns.invariant.long)) c.questions.invariant c.taken_off-gain.ensures in
     omega (
       arith,
       asked_fits (dims_of c.args.dims.now) c.args.sizes.now c.turns.costs c.levels.i (c.questions.q + 1) _ _ next (omega (arith, c.turns.invariant.long)),
@@ -54,7 +54,7 @@ overflow-add-gain-in-questions c =
 pub questions-preserved : goal.questions-preserved
 questions-preserved c =
     asked_more (dims_of c.args.dims.now) c.args.all.now c.args.sizes.now c.turns.costs c.levels.i c.questions.q c.questions.gain
-    c.questions.left c.taken-off-gain.result _ _ c.requires.all c.levels-test.true c.questions-test.true (omega (arith, c.turns.invariant.long)) c.questions.invariant c.taken-off-gain.ensures
+    c.questions.left c.taken_off-gain.result _ _ c.requires.all c.levels-test.true c.questions-test.true (omega (arith, c.turns.invariant.long)) c.questions.invariant c.taken_off-gain.ensures
 
 pub levels-preserved : goal.levels-preserved
 levels-preserved c =
@@ -66,8 +66,8 @@ levels-preserved c =
           c.questions.gain c.questions.left c.levels.invariant c.questions.invariant all w.if-gain-most.false)
     ]
 
-pub overflow-add-saves : goal.overflow-add-saves
-overflow-add-saves c =
+pub overflow_add-saves : goal.overflow_add-saves
+overflow_add-saves c =
     omega (
       arith,
       leading_fits (dims_of c.args.dims.now) c.args.sizes.now c.turns.costs c.levels.i c.levels.best c.levels.most c.levels.invariant,
@@ -75,8 +75,8 @@ overflow-add-saves c =
           c.requires.all c.requires.counted c.turns.invariant,
     )
 
-pub offset-bounds-sizes-best : goal.offset-bounds-sizes-best
-offset-bounds-sizes-best c =
+pub offset_bounds-sizes-best : goal.offset_bounds-sizes-best
+offset_bounds-sizes-best c =
     omega (
       arith,
       c.requires.all.few,
@@ -102,8 +102,8 @@ lower-requires c =
       long = c.turns.invariant.long;
     }
 
-pub offset-bounds-all-best : goal.offset-bounds-all-best
-offset-bounds-all-best c =
+pub offset_bounds-all-best : goal.offset_bounds-all-best
+offset_bounds-all-best c =
     omega (
       arith,
       c.requires.all.few,
@@ -122,7 +122,7 @@ turns-preserved c =
     c.levels.invariant c.requires.all.some (omega arith) in
     standing_more (dims_of c.args.dims.now) c.args.all.now c.args.sizes.now c.turns.costs c.lower.new.costs c.turns.saves c.levels.i
     c.levels.best c.levels.most (vec_items c.turns.turns) (vec_items c.push.new.self) _ c.turns.counter c.requires.all c.turns.invariant c.levels.invariant
-    (omega (arith, c.levels-test.false, c.levels.auto.i-end)) c.lower.ensures c.in-ok-push.ensures.items
+    (omega (arith, c.levels-test.false, c.levels.auto.i-end)) c.lower.ensures c.in_ok-push.ensures.items
     (c.requires.all.each c.levels.best _ below) (refl {a = c.turns.saves + c.levels.most})
 
 pub returns : goal.returns

@@ -1,15 +1,12 @@
-use Rattle.std.proofs.Common.{◌≡◌, length, Some, arith}
+use Rattle.std.proofs.Common.{◌≡◌, length, Some}
 use Rattle.std.proofs.lemmas.Bool.{lt-ltb}
 use Rattle.hierarchy.specs.Reading.{levels_in}
 use Rattle.hierarchy.specs.Views.{levels_of}
 use Rattle.replies.specs.declared.Refusal.TheVariants.{NoRoom}
-use Rattle.hierarchy.proofs.Widths.{dims_few}
 use Rattle.summary.specs.Memory.{start}
 use Rattle.model.specs.House.{ask, source, refusal}
 use Rattle.storage.specs.Memory.{sides, wide, limits, house_in}
 use Rattle.tables.specs.Ready.{kept_table, kept_tables}
-use Rattle.tables.proofs.Places.{size_bound}
-use Rattle.tables.proofs.Moves.{table_fits}
 use Rattle.tables.proofs.Scans.{read_are}
 use Rattle.storage.proofs.Rebuilt.{memory_ready, asked_refused, asked_shown}
 use Rattle.storage.proofs.layout.Layout.ask.Goals as goal
@@ -26,16 +23,16 @@ returns-in-Err c =
 pub source-from-requires : goal.source-from-requires
 source-from-requires c = memory_ready c.args.self.now c.args.book.now c.args.tables.now c.requires
 
-pub length-at-requires : goal.length-at-requires
-length-at-requires c =
+pub length_at-requires : goal.length_at-requires
+length_at-requires c =
     (memory_ready c.args.self.now c.args.book.now c.args.tables.now c.requires, c.source-from.ensures.0)
 
-pub groups-at-requires : goal.groups-at-requires
-groups-at-requires c =
+pub groups_at-requires : goal.groups_at-requires
+groups_at-requires c =
     (memory_ready c.args.self.now c.args.book.now c.args.tables.now c.requires, c.source-from.ensures.0)
 
-pub returns-then-out-length-at : goal.returns-then-out-length-at
-returns-then-out-length-at c =
+pub returns-then-out-length_at : goal.returns-then-out-length_at
+returns-then-out-length_at c =
     let l = c.args.self.now in
     let ss = sides l in
     let n = length c.args.out.now in
@@ -44,8 +41,8 @@ returns-then-out-length-at c =
     let there = c.in-Ok.ensures.0 in
     let m = read_are l.tables c.in-Ok.levels c.args.numbers.now there c.in-Ok.ensures.1 in
     let k : kept_table l.tables c.source-from.result c.args.tables.now ≡ source ss ls ks = rw (← m) c.source-from.ensures.1 in
-    let p : c.length-at.result ≡ start (wide l) (length (source ss ls ks).cells) = rw (← k) c.length-at.ensures in
-    let short = lt-ltb n (start (wide l) (length (source ss ls ks).cells)) (rw (← p) c.if-out-length-at.true) in
+    let p : c.length_at.result ≡ start (wide l) (length (source ss ls ks).cells) = rw (← k) c.length_at.ensures in
+    let short = lt-ltb n (start (wide l) (length (source ss ls ks).cells)) (rw (← p) c.if-out-length_at.true) in
     let h = house_in l c.args.book.now c.args.tables.now in
     let e : refusal ss (limits l) h (ask c.args.numbers.now n) ≡ Some (NoRoom n) = rw (there, short) in
     let r = asked_refused l c.args.numbers.now n (NoRoom n) c.args.book.now c.args.tables.now c.args.out.now e in
@@ -57,7 +54,7 @@ roll-requires c =
     record {
       ready = memory_ready l c.args.book.now c.args.tables.now c.requires;
       there = c.source-from.ensures.0;
-      room = rw (← c.length-at.ensures) c.if-out-length-at.false;
+      room = rw (← c.length_at.ensures) c.if-out-length_at.false;
     }
 
 pub returns : goal.returns
@@ -66,5 +63,5 @@ returns c =
     let there = c.in-Ok.ensures.0 in
     let m = read_are l.tables c.in-Ok.levels c.args.numbers.now there c.in-Ok.ensures.1 in
     let r = asked_shown l c.args.numbers.now (levels_of (wide l) c.in-Ok.levels) c.source-from.result (length c.args.out.now) c.args.book.now
-    c.args.tables.now c.args.out.now c.roll.new.to there m c.source-from.ensures.1 (rw (← c.length-at.ensures) c.if-out-length-at.false) c.roll.ensures.after in
-    record { reply = rw c.groups-at.ensures r.0; row = r.1 }
+    c.args.tables.now c.args.out.now c.roll.new.to there m c.source-from.ensures.1 (rw (← c.length_at.ensures) c.if-out-length_at.false) c.roll.ensures.after in
+    record { reply = rw c.groups_at.ensures r.0; row = r.1 }

@@ -8,8 +8,8 @@ use Rattle.tables.proofs.Places.{tables_length}
 use Rattle.storage.proofs.Rebuilt.{memory_ready, does_done, does_refused}
 use Rattle.storage.proofs.layout.Layout.drop_table.Goals as goal
 
-pub may-drop-requires : goal.may-drop-requires
-may-drop-requires c = memory_ready c.args.self.now c.args.book.now c.args.tables.now c.requires
+pub may_drop-requires : goal.may_drop-requires
+may_drop-requires c = memory_ready c.args.self.now c.args.book.now c.args.tables.now c.requires
 
 pub remove-requires : goal.remove-requires
 remove-requires c =

@@ -13,8 +13,8 @@ insert-requires c =
       free = book_free c.args.self.now c.args.book.now c.args.tables.now c.requires c.args.numbers.now c.in-Ok.fact ok.0 ok.1;
     }
 
-pub put-all-requires : goal.put-all-requires
-put-all-requires c =
+pub put_all-requires : goal.put_all-requires
+put_all-requires c =
     let ok = c.in-Ok.ensures in
     record {
       long = c.requires.long;
@@ -30,5 +30,5 @@ pub returns-in-Ok : goal.returns-in-Ok
 returns-in-Ok c =
     let ok = c.in-Ok.ensures in
     inserted_done c.args.self.now c.args.book.now c.args.tables.now c.requires c.args.numbers.now c.in-Ok.fact ok.0 ok.1
-    c.args.self.now.book.width c.insert.new.row c.put-all.new.tables c.args.self.now.booked c.insert.ensures.facts c.insert.ensures.holds
-    c.put-all.auto.tables c.put-all.ensures
+    c.args.self.now.book.width c.insert.new.row c.put_all.new.tables c.args.self.now.booked c.insert.ensures.facts c.insert.ensures.holds
+    c.put_all.auto.tables c.put_all.ensures

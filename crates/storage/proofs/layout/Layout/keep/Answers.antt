@@ -8,8 +8,8 @@ use Rattle.model.proofs.Steps.{keep_done}
 use Rattle.storage.proofs.Rebuilt.{memory_ready, does_done, does_refused}
 use Rattle.storage.proofs.layout.Layout.keep.Goals as goal
 
-pub may-keep-requires : goal.may-keep-requires
-may-keep-requires c = memory_ready c.args.self.now c.args.book.now c.args.tables.now c.requires.memory
+pub may_keep-requires : goal.may_keep-requires
+may_keep-requires c = memory_ready c.args.self.now c.args.book.now c.args.tables.now c.requires.memory
 
 pub add-requires : goal.add-requires
 add-requires c =

@@ -13,8 +13,8 @@ pub returns-in-Some : goal.returns-in-Some
 returns-in-Some c =
     λ book.
     let l = c.args.self.now in
-    let there = c.in-ok-levels.ensures.0 in
-    let m = read_are l.tables c.in-ok-levels.levels c.args.numbers.now there c.in-ok-levels.ensures.1 in
+    let there = c.in_ok-levels.ensures.0 in
+    let m = read_are l.tables c.in_ok-levels.levels c.args.numbers.now there c.in_ok-levels.ensures.1 in
     let at : kept_at (levels_in (sides l) c.args.numbers.now) 0 (kept_tables l.tables c.args.tables.now) ≡ Some c.in-Some.place = rw (← m) (sym c.in-Some.ensures) in
     rw (there, at)
 
@@ -22,9 +22,9 @@ pub returns-then-tables-ge-TABLES : goal.returns-then-tables-ge-TABLES
 returns-then-tables-ge-TABLES c =
     λ book.
     let l = c.args.self.now in
-    let there = c.in-ok-levels.ensures.0 in
-    let m = read_are l.tables c.in-ok-levels.levels c.args.numbers.now there c.in-ok-levels.ensures.1 in
-    let at : kept_at (levels_in (sides l) c.args.numbers.now) 0 (kept_tables l.tables c.args.tables.now) ≡ None = rw (← m) (sym c.in-default.ensures) in
+    let there = c.in_ok-levels.ensures.0 in
+    let m = read_are l.tables c.in_ok-levels.levels c.args.numbers.now there c.in_ok-levels.ensures.1 in
+    let at : kept_at (levels_in (sides l) c.args.numbers.now) 0 (kept_tables l.tables c.args.tables.now) ≡ None = rw (← m) (sym c.in_default.ensures) in
     let full = le-leb 16 (length (kept_tables l.tables c.args.tables.now)) (omega (arith, tables_length (wide l) (part_size l) c.args.tables.now, c.if-tables-ge-TABLES.true)) in
     rw (there, at, full)
 
@@ -32,7 +32,7 @@ pub returns : goal.returns
 returns c =
     λ book.
     let l = c.args.self.now in
-    let there = c.in-ok-levels.ensures.0 in
-    let m = read_are l.tables c.in-ok-levels.levels c.args.numbers.now there c.in-ok-levels.ensures.1 in
-    let at : kept_at (levels_in (sides l) c.args.numbers.now) 0 (kept_tables l.tables c.args.tables.now) ≡ None = rw (← m) (sym c.in-default.ensures) in
+    let there = c.in_ok-levels.ensures.0 in
+    let m = read_are l.tables c.in_ok-levels.levels c.args.numbers.now there c.in_ok-levels.ensures.1 in
+    let at : kept_at (levels_in (sides l) c.args.numbers.now) 0 (kept_tables l.tables c.args.tables.now) ≡ None = rw (← m) (sym c.in_default.ensures) in
     (keep_accepted (sides l) (limits l) (house_in l book c.args.tables.now) c.args.numbers.now there at (omega (arith, tables_length (wide l) (part_size l) c.args.tables.now, c.if-tables-ge-TABLES.false)), m)

@@ -1,13 +1,10 @@
-use Rattle.std.proofs.Common.{ℕ, sym, refl, subst, arith}
+use Rattle.std.proofs.Common.{sym, refl, arith}
 use Rattle.std.proofs.lemmas.Bool.{le-ltb}
 use Rattle.hierarchy.specs.Facts.{copies}
 use Rattle.hierarchy.specs.Views.{entry_of}
-use Rattle.hierarchy.proofs.Widths.{dims_few}
 use Rattle.ledger.specs.Book.{facts_in}
 use Rattle.ledger.proofs.Counts.{none_gone}
-use Rattle.summary.specs.Memory.{Sound}
-use Rattle.storage.specs.Memory.{sides, wide}
-use Rattle.tables.proofs.Deeds.{part_place, numbers_there, levels_there}
+use Rattle.storage.specs.Memory.{wide}
 use Rattle.storage.proofs.Deletes.{not_there}
 use Rattle.storage.proofs.Inserts.{first_sound}
 use Rattle.storage.proofs.layout.Layout.strike.Goals as goal
@@ -20,8 +17,8 @@ pub returns : goal.returns
 returns c =
     let l = c.args.self.now in
     let e = entry_of (wide l) c.args.fact in
-    let none = not_there l c.args.book.now c.args.tables.now c.requires.0 e c.part-finest.result.now c.find.result c.is-ok.result
-    c.part-finest.ensures.0 c.find.ensures c.is-ok.ensures.value c.if-is-ok.false in
+    let none = not_there l c.args.book.now c.args.tables.now c.requires.0 e c.part-finest.result.now c.find.result c.is_ok.result
+    c.part-finest.ensures.0 c.find.ensures c.is_ok.ensures.value c.if-is_ok.false in
     record {
       told = sym (le-ltb 0 (copies e (facts_in (wide l) c.args.book.now)) (omega (arith, none)));
       facts = sym (none_gone e (facts_in (wide l) c.args.book.now) none);

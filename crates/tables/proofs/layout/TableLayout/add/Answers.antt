@@ -22,11 +22,11 @@ roll-requires c =
       room = rw c.requires.row (table_fits c.args.self.now c.args.tables.now c.source-from.result c.requires.ready from);
     }
 
-pub slice-bounds-copy-from-slice-end : goal.slice-bounds-copy-from-slice-end
-slice-bounds-copy-from-slice-end c =
+pub slice_bounds-copy_from_slice-end : goal.slice_bounds-copy_from_slice-end
+slice_bounds-copy_from_slice-end c =
     let s = part_size c.args.self.now in
     let p = c.at-at.ensures.0 in
-    let q = c.part-length.ensures.0 in
+    let q = c.part_length.ensures.0 in
     let long = c.requires.ready.long in
     rw (p, q, long) (within s (get_or c.args.tables.now 0 0) c.requires.room)
 
@@ -38,18 +38,18 @@ returns c =
     let ss = sides l in
     let xs = c.args.tables.now in
     let n = get_or xs 0 0 in
-    let row = c.copy-from-slice.new.self in
+    let row = c.copy_from_slice.new.self in
     let ls = levels_of w c.args.levels in
     let ks = kept_tables l xs in
     let i = c.source-from.result in
     let there = c.source-from.ensures.0 in
-    let copied = c.copy-from-slice.ensures.after in
+    let copied = c.copy_from_slice.ensures.after in
     let same-long : length c.roll.new.to ≡ length c.args.row.now = c.roll.auto.to in
     let exact : length row ≡ s = ap length copied ∙ (same-long ∙ c.requires.row) in
     let p = c.at-at.ensures.0 in
-    let q = c.part-length.ensures.0 in
-    let size : (c.at-at.result + c.part-length.result) - c.at-at.result ≡ s = omega (arith, q) in
-    let e : set (put_mid c.at-at.result ((c.at-at.result + c.part-length.result) - c.at-at.result) xs row) 0 (n + 1)
+    let q = c.part_length.ensures.0 in
+    let size : (c.at-at.result + c.part_length.result) - c.at-at.result ≡ s = omega (arith, q) in
+    let e : set (put_mid c.at-at.result ((c.at-at.result + c.part_length.result) - c.at-at.result) xs row) 0 (n + 1)
     ≡ set (put_mid (1 + s * n) s xs row) 0 (n + 1) = rw (size, p) in
     let row-sound : summary.Sound w row = rw copied c.roll.ensures.sound in
     let four : length c.args.levels.at ≡ 4 = search rules in

@@ -12,7 +12,7 @@ find-requires c = subst (λ (n : ℕ). Sound n c.args.part.now) (sym c.args.self
 pub returns : goal.returns
 returns c =
     let l = c.args.self.now in
-    let at = part_place (sides l) c.args.part.now c.args.fact.place c.levels-in-levels.result.at c.place-at-place.result
+    let at = part_place (sides l) c.args.part.now c.args.fact.place c.levels_in-levels.result.at c.place_at-place.result
     (dims_few l.dims) (levels_there (wide l) c.args.part.now c.requires.0) (numbers_there (wide l) c.args.fact.place c.requires.1)
-    c.levels-in-levels.ensures c.place-at-place.ensures in
-    found_there (sides l) l.shape.width c.place-at-place.result _ c.args.part.now c.find.result l.shaped at c.find.ensures
+    c.levels_in-levels.ensures c.place_at-place.ensures in
+    found_there (sides l) l.shape.width c.place_at-place.result _ c.args.part.now c.find.result l.shaped at c.find.ensures

@@ -7,24 +7,24 @@ use Rattle.tables.proofs.layout.TableLayout.put.Goals as goal
 
 pub put-requires : goal.put-requires
 put-requires c =
-    let at = part_place (sides c.args.self.now) c.args.part.now c.args.fact.place c.levels-in-levels.result.at c.place-at-place.result
+    let at = part_place (sides c.args.self.now) c.args.part.now c.args.fact.place c.levels_in-levels.result.at c.place_at-place.result
     (dims_few c.args.self.now.dims) (levels_there (wide c.args.self.now) c.args.part.now c.requires.sound)
-    (numbers_there (wide c.args.self.now) c.args.fact.place c.requires.long) c.levels-in-levels.ensures c.place-at-place.ensures in
+    (numbers_there (wide c.args.self.now) c.args.fact.place c.requires.long) c.levels_in-levels.ensures c.place_at-place.ensures in
     let e = entry_of (wide c.args.self.now) c.args.fact in
     record {
       sound = sound_there (sides c.args.self.now) c.args.self.now.shape.width c.args.self.now.shaped (dims_few c.args.self.now.dims) e
           c.args.part.now c.requires.sound c.requires.long;
       fits = fits_there (sides c.args.self.now) c.args.self.now.shape.width c.args.self.now.shaped (dims_few c.args.self.now.dims) e
-          c.args.part.now c.requires.sound c.requires.long (record { place = c.place-at-place.result; count = 1; sum = c.args.fact.amount }) at refl refl c.requires.fits;
+          c.args.part.now c.requires.sound c.requires.long (record { place = c.place_at-place.result; count = 1; sum = c.args.fact.amount }) at refl refl c.requires.fits;
     }
 
 pub returns : goal.returns
 returns c =
-    let at = part_place (sides c.args.self.now) c.args.part.now c.args.fact.place c.levels-in-levels.result.at c.place-at-place.result
+    let at = part_place (sides c.args.self.now) c.args.part.now c.args.fact.place c.levels_in-levels.result.at c.place_at-place.result
     (dims_few c.args.self.now.dims) (levels_there (wide c.args.self.now) c.args.part.now c.requires.sound)
-    (numbers_there (wide c.args.self.now) c.args.fact.place c.requires.long) c.levels-in-levels.ensures c.place-at-place.ensures in
+    (numbers_there (wide c.args.self.now) c.args.fact.place c.requires.long) c.levels_in-levels.ensures c.place_at-place.ensures in
     let e = entry_of (wide c.args.self.now) c.args.fact in
     let r = put_done (sides c.args.self.now) c.args.self.now.shape.width c.args.self.now.shaped (dims_few c.args.self.now.dims) e
-    c.args.part.now c.requires.sound c.requires.long (record { place = c.place-at-place.result; count = 1; sum = c.args.fact.amount }) at refl refl
+    c.args.part.now c.requires.sound c.requires.long (record { place = c.place_at-place.result; count = 1; sum = c.args.fact.amount }) at refl refl
     c.put.new.row c.put.result c.requires.room c.put.ensures.told c.put.ensures.after in
     record { table = r.0; sound = r.1 }

@@ -11,10 +11,10 @@ take-requires c =
 
 pub returns : goal.returns
 returns c =
-    let at = part_place (sides c.args.self.now) c.args.part.now c.args.fact.place c.levels-in-levels.result.at c.place-at-place.result
+    let at = part_place (sides c.args.self.now) c.args.part.now c.args.fact.place c.levels_in-levels.result.at c.place_at-place.result
     (dims_few c.args.self.now.dims) (levels_there (wide c.args.self.now) c.args.part.now c.requires.0)
-    (numbers_there (wide c.args.self.now) c.args.fact.place c.requires.1) c.levels-in-levels.ensures c.place-at-place.ensures in
+    (numbers_there (wide c.args.self.now) c.args.fact.place c.requires.1) c.levels_in-levels.ensures c.place_at-place.ensures in
     let r = take_done (sides c.args.self.now) c.args.self.now.shape.width c.args.self.now.shaped (dims_few c.args.self.now.dims)
-    (entry_of (wide c.args.self.now) c.args.fact) c.args.part.now c.requires.0 c.requires.1 c.place-at-place.result at c.take.new.row c.take.result
+    (entry_of (wide c.args.self.now) c.args.fact) c.args.part.now c.requires.0 c.requires.1 c.place_at-place.result at c.take.new.row c.take.result
     c.take.ensures.told c.take.ensures.after c.take.ensures.sound in
     record { table = r.0; sound = r.1 }

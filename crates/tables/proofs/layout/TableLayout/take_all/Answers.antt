@@ -6,22 +6,22 @@ use Rattle.tables.specs.Memory.{WithoutFact}
 use Rattle.tables.proofs.Places.{within, each_turn}
 use Rattle.tables.proofs.layout.TableLayout.take_all.Goals as goal
 
-pub slice-bounds-take-end : goal.slice-bounds-take-end
-slice-bounds-take-end c =
+pub slice_bounds-take-end : goal.slice_bounds-take-end
+slice_bounds-take-end c =
     let t : c.loop-t.t < 16 = omega (arith, c.loop-t-test.true, c.kept-t-end.ensures, c.requires.few) in
-    omega (arith, c.requires.long, c.at-at.ensures.0, c.part-length-length.ensures.0, within (part_size c.args.self.now) c.loop-t.t t, c.loop-t.auto.tables)
+    omega (arith, c.requires.long, c.at-at.ensures.0, c.part_length-length.ensures.0, within (part_size c.args.self.now) c.loop-t.t t, c.loop-t.auto.tables)
 
 pub loop-t-preserved : goal.loop-t-preserved
 loop-t-preserved c =
     let t : c.loop-t.t < 16 = omega (arith, c.loop-t-test.true, c.kept-t-end.ensures, c.requires.few) in
-    let k : (c.at-at.result + c.part-length-length.result) - c.at-at.result ≡ part_size c.args.self.now = omega (arith, c.part-length-length.ensures.0) in
+    let k : (c.at-at.result + c.part_length-length.result) - c.at-at.result ≡ part_size c.args.self.now = omega (arith, c.part_length-length.ensures.0) in
     let long : 1 + part_size c.args.self.now * c.loop-t.t + part_size c.args.self.now ≤ length c.loop-t.tables =
     omega (arith, c.requires.long, within (part_size c.args.self.now) c.loop-t.t t, c.loop-t.auto.tables) in
     let rest : length c.loop-t.tables - c.at-at.result ≡ length (drop c.at-at.result c.loop-t.tables) = sym (length-drop c.at-at.result c.loop-t.tables) in
     let exact : length c.take.new.part ≡ part_size c.args.self.now =
     c.take.auto.part
-    ∙ (length-take-le ((c.at-at.result + c.part-length-length.result) - c.at-at.result) (drop c.at-at.result c.loop-t.tables)
+    ∙ (length-take-le ((c.at-at.result + c.part_length-length.result) - c.at-at.result) (drop c.at-at.result c.loop-t.tables)
     (omega (arith, rest, k, long, c.at-at.ensures.0)) ∙ k) in
     each_turn (part_size c.args.self.now) (WithoutFact c.args.self.now (entry_of (wide c.args.self.now) c.args.fact)) c.loop-t.t c.args.tables.now
-    c.loop-t.tables c.take.new.part c.at-at.result ((c.at-at.result + c.part-length-length.result) - c.at-at.result) c.at-at.ensures.0 k long exact
+    c.loop-t.tables c.take.new.part c.at-at.result ((c.at-at.result + c.part_length-length.result) - c.at-at.result) c.at-at.ensures.0 k long exact
     c.loop-t.invariant c.take.ensures
