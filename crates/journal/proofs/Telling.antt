@@ -6,7 +6,7 @@ use Rattle.replies.specs.declared.Refusal.{Refusal}
 use Rattle.replies.specs.declared.Reply.{Reply}
 use Rattle.replies.specs.declared.Reply.TheVariants.{Done, Shown, Refused}
 use Rattle.totals.specs.Tables.{Table}
-use Rattle.model.specs.House.{House, Limits, Deed, insert, delete, keep, drop-table, ask, Told, done, shown, refused, or_refused, refusal, empty, step, told}
+use Rattle.model.specs.House.{House, Limits, Deed, insert, delete, keep, drop_table, ask, Told, done, shown, refused, or_refused, refusal, empty, step, told}
 use Rattle.storage.specs.Memory.{sides, limits, reply_of}
 use Rattle.warehouse.specs.Views.{dims_in, limits_in, house_of}
 use Rattle.warehouse.specs.declared.house.Warehouse.{Warehouse}
@@ -46,9 +46,9 @@ pub plain_keep : (ss : Dims) (lim : Limits) (h : House) (xs : Row) → Plain ss 
 unfolding told
 plain_keep ss lim h xs = plain_done (refusal ss lim h (keep xs))
 
-pub plain_drop : (ss : Dims) (lim : Limits) (h : House) (xs : Row) → Plain ss lim h (drop-table xs)
+pub plain_drop : (ss : Dims) (lim : Limits) (h : House) (xs : Row) → Plain ss lim h (drop_table xs)
 unfolding told
-plain_drop ss lim h xs = plain_done (refusal ss lim h (drop-table xs))
+plain_drop ss lim h xs = plain_done (refusal ss lim h (drop_table xs))
 
 -- a deed of this kind was done, and its reply written
 pub acted : (ss : Dims) (lim : Limits) (h h₁ : House) (n : ℕ) (kind k : Kind) (xs : Row) (r : Reply) (t₀ t₁ : List ℕ) (A : Type 0) → kind ≡ k

@@ -6,7 +6,7 @@ use Rattle.std.proofs.lemmas.List.FromFn.{fill_by_all}
 use Rattle.hierarchy.specs.Dimensions.{Row}
 use Rattle.hierarchy.specs.Reading.{dims_in}
 use Rattle.hierarchy.proofs.Parts.{next_place}
-use Rattle.model.specs.House.{Deed, insert, delete, keep, drop-table, ask}
+use Rattle.model.specs.House.{Deed, insert, delete, keep, drop_table, ask}
 use Rattle.formats.specs.Bytes.{Bytes, number, numbers, numbers_out, sides_count, sides_of, behind_sides}
 use Rattle.journal.specs.Deeds.{size_in, is_deed, deed_in, deed_out, deeds_in, deeds_past, deeds_out, is_whole, whole_past}
 use Rattle.journal.specs.Promises.{Small, Writable, AllWritable, Sides, ReadBack, ToldBack, BrokenOff}
@@ -83,11 +83,11 @@ deed_back w n (keep xs) rest h =
       read = ap keep r.read;
       behind = passed 2 (4 * w) (numbers_out xs ++ rest) ∙ r.behind;
     }
-deed_back w n (drop-table xs) rest h =
+deed_back w n (drop_table xs) rest h =
     let r = row_back xs rest w h.0 h.1 in
     record {
       there = deed_there w (3 ∷ numbers_out xs ++ rest) (omega arith) (omega (arith, r.there));
-      read = ap drop-table r.read;
+      read = ap drop_table r.read;
       behind = passed 3 (4 * w) (numbers_out xs ++ rest) ∙ r.behind;
     }
 deed_back w n (ask xs m) rest h =

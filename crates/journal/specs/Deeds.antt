@@ -3,7 +3,7 @@
 use Rattle.std.specs.Prelude.{ℕ, zero, suc, ◌+◌, ◌*◌, Bool, true, cond, ◌&&◌, List, [], ◌∷◌, length, drop, ◌==◌, nat_le, slice_index}
 use Rattle.std.specs.List.{flat_map}
 use Rattle.hierarchy.specs.Dimensions.{Row}
-use Rattle.model.specs.House.{Deed, insert, delete, keep, drop-table, ask}
+use Rattle.model.specs.House.{Deed, insert, delete, keep, drop_table, ask}
 use Rattle.formats.specs.Bytes.{Bytes, numbers, numbers_out}
 use Rattle.journal.specs.declared.deed.Kind.{Kind}
 use Rattle.journal.specs.declared.deed.Kind.TheVariants.{Insert, Delete, Keep, Drop, Ask}
@@ -24,7 +24,7 @@ abbrev pub deed_of : ℕ → Kind → Row → Deed
 deed_of n Insert xs = insert xs
 deed_of n Delete xs = delete xs
 deed_of n Keep xs = keep xs
-deed_of n Drop xs = drop-table xs
+deed_of n Drop xs = drop_table xs
 deed_of n Ask xs = ask xs n
 
 -- bytes begin with a deed: the first byte says one, and its numbers are there
@@ -61,7 +61,7 @@ abbrev pub deed_out : Deed → Bytes
 deed_out (insert xs) = 0 ∷ numbers_out xs
 deed_out (delete xs) = 1 ∷ numbers_out xs
 deed_out (keep xs) = 2 ∷ numbers_out xs
-deed_out (drop-table xs) = 3 ∷ numbers_out xs
+deed_out (drop_table xs) = 3 ∷ numbers_out xs
 deed_out (ask xs n) = 4 ∷ numbers_out xs
 
 abbrev pub deeds_out : List Deed → Bytes

@@ -2,7 +2,7 @@
 use Rattle.std.specs.Prelude.{◌≡◌, ℕ, ◌+◌, ◌*◌, ◌^◌, ◌<◌, ◌≤◌, true, false, List, ◌++◌, length, None, slice_index, slice_index_or}
 use Rattle.hierarchy.specs.Dimensions.{Row}
 use Rattle.hierarchy.specs.Reading.{dims_in, dims_refusal}
-use Rattle.model.specs.House.{Limits, Deed, insert, delete, keep, drop-table, ask, empty}
+use Rattle.model.specs.House.{Limits, Deed, insert, delete, keep, drop_table, ask, empty}
 use Rattle.formats.specs.Bytes.{Bytes, sides_of, behind_sides}
 use Rattle.journal.specs.Deeds.{is_deed, deeds_in, is_whole, deeds_out}
 use Rattle.journal.specs.Replies.{replies}
@@ -17,7 +17,7 @@ abbrev pub Writable : ℕ → ℕ → Deed → Type 0
 Writable w n (insert xs) = (length xs ≡ w + 1) × Small xs
 Writable w n (delete xs) = (length xs ≡ w + 1) × Small xs
 Writable w n (keep xs) = (length xs ≡ w) × Small xs
-Writable w n (drop-table xs) = (length xs ≡ w) × Small xs
+Writable w n (drop_table xs) = (length xs ≡ w) × Small xs
 Writable w n (ask xs m) = (length xs ≡ w) × Small xs × (m ≡ n)
 
 abbrev pub AllWritable : ℕ → ℕ → List Deed → Type 0

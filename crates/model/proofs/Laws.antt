@@ -18,7 +18,7 @@ use Rattle.totals.specs.Cost.{size}
 use Rattle.totals.proofs.Put.{put_none, put_same, put_front, put_on, within_total}
 use Rattle.totals.proofs.Order.{order}
 use Rattle.totals.proofs.Theory.{table_none, table_more, table_total, coarser_smaller}
-use Rattle.model.specs.House.{Kept, House, Limits, insert, delete, keep, drop-table, ask, with_fact, without_fact, first_full, kept_at, dropped, source, table_length, or_else, refuse_if, refusal, step}
+use Rattle.model.specs.House.{Kept, House, Limits, insert, delete, keep, drop_table, ask, with_fact, without_fact, first_full, kept_at, dropped, source, table_length, or_else, refuse_if, refusal, step}
 use Rattle.model.specs.Promises.{Sound, Whole}
 use Rattle.model.proofs.Steps.{step_done, step_refused, cases_refusal, none_some, levels_there, keep_done}
 use Rattle.model.proofs.Source.{Good, answer_right}
@@ -98,7 +98,7 @@ pub keep_accepted : (ss : Dims) (lim : Limits) (h : House) (xs : Row) → levels
 keep_accepted ss lim h xs l k n = rw (l, k, lt-leb 16 (length h.kept) n)
 
 pub drop_accepted : (ss : Dims) (lim : Limits) (h : House) (xs : Row) (i : ℕ) → levels_refusal ss xs ≡ None
-    → same (levels_in ss xs) (finest ss) ≡ false → kept_at (levels_in ss xs) 0 h.kept ≡ Some i → refusal ss lim h (drop-table xs) ≡ None
+    → same (levels_in ss xs) (finest ss) ≡ false → kept_at (levels_in ss xs) 0 h.kept ≡ Some i → refusal ss lim h (drop_table xs) ≡ None
 drop_accepted ss lim h xs i l n k = rw (l, n, k)
 
 pub ask_accepted : (ss : Dims) (lim : Limits) (h : House) (xs : Row) (n : ℕ) → levels_refusal ss xs ≡ None
@@ -163,9 +163,9 @@ step_keep ss lim h xs s e =
     rw (step_done ss lim h (keep xs) e, answer_right ss (levels_in ss xs) h.facts h.kept (sound_front ss h s) there (sound_good ss h s))
 
 pub step_drop : (ss : Dims) (lim : Limits) (h : House) (xs : Row) (i : ℕ) → kept_at (levels_in ss xs) 0 h.kept ≡ Some i
-    → refusal ss lim h (drop-table xs) ≡ None
-    → step ss lim h (drop-table xs) ≡ record { facts = h.facts; kept = take i h.kept ++ drop (suc i) h.kept }
-step_drop ss lim h xs i k e = rw (step_done ss lim h (drop-table xs) e, (found (levels_in ss xs) i h.kept k).rest)
+    → refusal ss lim h (drop_table xs) ≡ None
+    → step ss lim h (drop_table xs) ≡ record { facts = h.facts; kept = take i h.kept ++ drop (suc i) h.kept }
+step_drop ss lim h xs i k e = rw (step_done ss lim h (drop_table xs) e, (found (levels_in ss xs) i h.kept k).rest)
 
 pub step_ask : (ss : Dims) (lim : Limits) (h : House) (xs : Row) (n : ℕ) → step ss lim h (ask xs n) ≡ h
 step_ask ss lim h xs n =

@@ -14,7 +14,7 @@ use Rattle.hierarchy.proofs.Rows.{same_is}
 use Rattle.totals.specs.Tables.{Table, take_out}
 use Rattle.totals.proofs.Put.{take_out_none, take_out_last, take_out_less, take_out_on, rolled_length}
 use Rattle.totals.proofs.Theory.{table_none, table_more, taken_back}
-use Rattle.model.specs.House.{Kept, House, Limits, Deed, insert, delete, keep, drop-table, ask, empty, with_fact, without_fact, first_full, dropped, source, answer, refusal, after, step, end}
+use Rattle.model.specs.House.{Kept, House, Limits, Deed, insert, delete, keep, drop_table, ask, empty, with_fact, without_fact, first_full, dropped, source, answer, refusal, after, step, end}
 use Rattle.model.specs.Promises.{Sound, Whole, Valid}
 use Rattle.model.proofs.Steps.{step_done, step_refused, cases_refusal, cond_none, levels_there, fact_whole, insert_done, delete_done, keep_done, drop_done}
 use Rattle.model.proofs.Source.{Front, Good, source_all, answer_right}
@@ -140,9 +140,9 @@ after_sound ss lim h (keep xs) e s =
     sound_from ss (after ss h (keep xs)) (front_push ss h.kept k front)
     (All-push (Good ss h.facts) h.kept k good
     (record { there = there; right = answer_right ss ls h.facts h.kept front there good }))
-after_sound ss lim h (drop-table xs) e s =
+after_sound ss lim h (drop_table xs) e s =
     let ls = levels_in ss xs in
-    sound_from ss (after ss h (drop-table xs)) (front_dropped ss ls h.kept (drop_done ss lim h xs e).1 (sound_front ss h s))
+    sound_from ss (after ss h (drop_table xs)) (front_dropped ss ls h.kept (drop_done ss lim h xs e).1 (sound_front ss h s))
     (all_dropped (Good ss h.facts) ls h.kept (sound_good ss h s))
 after_sound ss lim h (ask xs n) e s = s
 
@@ -195,11 +195,11 @@ after_holds ss lim h (keep xs) e s =
       groups = All-push (λ k. length k.cells ≤ lim.groups) h.kept k s.groups
           (omega (arith, rolled_length ss from.levels ls from.cells, source_all ss ls (λ k. length k.cells ≤ lim.groups) h.kept (sound_front ss h s.sound) long s.groups));
     }
-after_holds ss lim h (drop-table xs) e s =
+after_holds ss lim h (drop_table xs) e s =
     let g = drop_done ss lim h xs e in
     let ls = levels_in ss xs in
     record {
-      sound = after_sound ss lim h (drop-table xs) e s.sound;
+      sound = after_sound ss lim h (drop_table xs) e s.sound;
       whole = s.whole;
       few = s.few;
       tables = omega (arith, dropped_length ls h.kept, s.tables);

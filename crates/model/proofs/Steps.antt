@@ -8,7 +8,7 @@ use Rattle.hierarchy.specs.Levels.{same, are_levels, finest}
 use Rattle.hierarchy.specs.Facts.{copies}
 use Rattle.hierarchy.specs.Reading.{first_missing, levels_refusal, levels_in, first_wrong, fact_refusal, entry_in}
 use Rattle.replies.specs.declared.Refusal.{Refusal}
-use Rattle.model.specs.House.{House, Limits, Deed, insert, delete, keep, drop-table, ask, refused, source, first_full, kept_at, table_length, or_else, refuse_if, not_kept, refusal, after, answered, step, told}
+use Rattle.model.specs.House.{House, Limits, Deed, insert, delete, keep, drop_table, ask, refused, source, first_full, kept_at, table_length, or_else, refuse_if, not_kept, refusal, after, answered, step, told}
 use Rattle.model.specs.Promises.{Whole}
 
 -- a deed that is not refused is done, and one that is refused changes nothing
@@ -131,7 +131,7 @@ keep_done ss lim h xs e =
     let b = or_none (option_map _ (kept_at (levels_in ss xs) 0 h.kept)) _ a.1 in
     (a.0, mapped_none _ (kept_at (levels_in ss xs) 0 h.kept) b.0, leb-false _ _ (refuse_none _ _ b.1))
 
-pub drop_done : (ss : Dims) (lim : Limits) (h : House) (xs : Row) → refusal ss lim h (drop-table xs) ≡ None
+pub drop_done : (ss : Dims) (lim : Limits) (h : House) (xs : Row) → refusal ss lim h (drop_table xs) ≡ None
     → (levels_refusal ss xs ≡ None) × (same (levels_in ss xs) (finest ss) ≡ false)
     × ((i : ℕ) × (kept_at (levels_in ss xs) 0 h.kept ≡ Some i))
 drop_done ss lim h xs e =

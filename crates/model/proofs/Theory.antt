@@ -15,7 +15,7 @@ use Rattle.totals.specs.Cost.{size, cost}
 use Rattle.totals.specs.Promises.{NoneEmpty}
 use Rattle.totals.proofs.Put.{put_none, put_length}
 use Rattle.totals.proofs.Theory.{table_more, table_none_empty, taken_back}
-use Rattle.model.specs.House.{Kept, House, Limits, Deed, insert, delete, keep, drop-table, ask, shown, refused, empty, with_fact, without_fact, source, answer, table_length, refusal, after, answered, unless, step, told, end}
+use Rattle.model.specs.House.{Kept, House, Limits, Deed, insert, delete, keep, drop_table, ask, shown, refused, empty, with_fact, without_fact, source, answer, table_length, refusal, after, answered, unless, step, told, end}
 use Rattle.model.specs.Promises.{reached, Sound, Whole, AlwaysSound, FactsWhole, TotalsRight, AlwaysAnswered, comes, goes, came, went, FactsBalance, ComesAndGoes, facts_only, but_for_work, TablesUnseen, RefusedUntouched, NeverNothing, WithinLimits, WarehouseRight, Valid}
 use Rattle.model.proofs.Steps.{step_done, step_refused, told_done, told_refused, cases_refusal, levels_there, insert_done, delete_done, ask_done}
 use Rattle.model.proofs.Source.{Good, source_all, source_finer, source_least, source_cost, answer_right}
@@ -130,7 +130,7 @@ answered_not : {P : Type 0} (ss : Dims) (h : House) (d : Deed) (r : Refusal) →
 answered_not ss h (insert xs) r q = let z : ◌≡◌ {A = ℕ} 0 1 = cc in absurd (omega arith)
 answered_not ss h (delete xs) r q = let z : ◌≡◌ {A = ℕ} 0 1 = cc in absurd (omega arith)
 answered_not ss h (keep xs) r q = let z : ◌≡◌ {A = ℕ} 0 1 = cc in absurd (omega arith)
-answered_not ss h (drop-table xs) r q = let z : ◌≡◌ {A = ℕ} 0 1 = cc in absurd (omega arith)
+answered_not ss h (drop_table xs) r q = let z : ◌≡◌ {A = ℕ} 0 1 = cc in absurd (omega arith)
 answered_not ss h (ask xs n) r q = let z : ◌≡◌ {A = ℕ} 0 1 = cc in absurd (omega arith)
 
 pub refused_untouched : RefusedUntouched
@@ -178,7 +178,7 @@ after_balance : (ss : Dims) (lim : Limits) (e : Entry) (h : House) (d : Deed) �
 after_balance ss lim e h (insert xs) q = omega (arith, copies_more e (entry_in ss xs) h.facts)
 after_balance ss lim e h (delete xs) q = omega (arith, copies_without e (entry_in ss xs) h.facts (delete_done ss lim h xs q).1)
 after_balance ss lim e h (keep xs) q = refl
-after_balance ss lim e h (drop-table xs) q = refl
+after_balance ss lim e h (drop_table xs) q = refl
 after_balance ss lim e h (ask xs n) q = refl
 
 step_balance : (ss : Dims) (lim : Limits) (e : Entry) (h : House) (d : Deed)
@@ -272,8 +272,8 @@ facts_alike ss lim (delete xs ∷ ds) h g s r q =
     (step_alike ss lim h g (delete xs) q (delete_alike ss lim h g q xs) (ap (without (entry_in ss xs)) q))
 facts_alike ss lim (keep xs ∷ ds) h g s r q =
     facts_alike ss lim ds (step ss lim h (keep xs)) g (step_sound ss lim h (keep xs) s) r (step_same ss lim h (keep xs) refl ∙ q)
-facts_alike ss lim (drop-table xs ∷ ds) h g s r q =
-    facts_alike ss lim ds (step ss lim h (drop-table xs)) g (step_sound ss lim h (drop-table xs) s) r (step_same ss lim h (drop-table xs) refl ∙ q)
+facts_alike ss lim (drop_table xs ∷ ds) h g s r q =
+    facts_alike ss lim ds (step ss lim h (drop_table xs)) g (step_sound ss lim h (drop_table xs) s) r (step_same ss lim h (drop_table xs) refl ∙ q)
 facts_alike ss lim (ask xs n ∷ ds) h g s r q =
     facts_alike ss lim ds (step ss lim h (ask xs n)) (step ss lim g (ask xs n)) (step_sound ss lim h (ask xs n) s) (step_sound ss lim g (ask xs n) r)
     (step_same ss lim h (ask xs n) refl ∙ (q ∙ sym (step_same ss lim g (ask xs n) refl)))

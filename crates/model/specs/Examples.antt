@@ -4,7 +4,7 @@ use Rattle.std.specs.Prelude.{◌≡◌, ℕ, ◌+◌, ◌*◌, List, [], ◌∷
 use Rattle.hierarchy.specs.Dimensions.{Dims}
 use Rattle.replies.specs.declared.Refusal.TheVariants.{NoSuchFact, FinestStays}
 use Rattle.totals.specs.Tables.{Cell}
-use Rattle.model.specs.House.{House, Limits, Deed, insert, delete, keep, drop-table, ask, Told, shown, refused, empty, step, told, end}
+use Rattle.model.specs.House.{House, Limits, Deed, insert, delete, keep, drop_table, ask, Told, shown, refused, empty, step, told, end}
 
 abbrev pub branches_and_days : Dims
 branches_and_days = (2 ∷ 2 ∷ []) ∷ (7 ∷ []) ∷ []
@@ -46,4 +46,4 @@ Worked =
     × (asked kept_shop 2 1 ≡ shown (group 0 0 3 11 ∷ group 0 1 1 1 ∷ group 1 1 2 10 ∷ []) 3)
     × (asked later_shop 1 1 ≡ shown (group 0 0 2 9 ∷ group 1 1 1 1 ∷ group 2 1 2 10 ∷ []) 3)
     × (told branches_and_days room later_shop (delete (1 ∷ 3 ∷ 2 ∷ [])) ≡ refused NoSuchFact)
-    × (told branches_and_days room later_shop (drop-table (0 ∷ 0 ∷ [])) ≡ refused FinestStays)
+    × (told branches_and_days room later_shop (drop_table (0 ∷ 0 ∷ [])) ≡ refused FinestStays)

@@ -30,7 +30,7 @@ pub data Deed : Type 0 where
   insert : Row → Deed
   delete : Row → Deed
   keep : Row → Deed
-  drop-table : Row → Deed
+  drop_table : Row → Deed
   ask : Row → ℕ → Deed
 
 pub data Told : Type 0 where
@@ -99,7 +99,7 @@ refusal ss lim h (insert xs) =
 refusal ss lim h (delete xs) = or_else (fact_refusal ss xs) (refuse_if (copies (entry_in ss xs) h.facts == 0) NoSuchFact)
 refusal ss lim h (keep xs) =
     or_else (levels_refusal ss xs) (or_else (option_map AlreadyKept (kept_at (levels_in ss xs) 0 h.kept)) (refuse_if (nat_le 16 (length h.kept)) AllKept))
-refusal ss lim h (drop-table xs) =
+refusal ss lim h (drop_table xs) =
     or_else (levels_refusal ss xs) (or_else (refuse_if (same (levels_in ss xs) (finest ss)) FinestStays) (not_kept (kept_at (levels_in ss xs) 0 h.kept)))
 refusal ss lim h (ask xs n) =
     or_else (levels_refusal ss xs) (refuse_if (nat_lt n (table_length (length ss) (length (source ss (levels_in ss xs) h.kept).cells))) (NoRoom n))
@@ -110,7 +110,7 @@ after ss h (insert xs) = record { facts = entry_in ss xs ∷ h.facts; kept = map
 after ss h (delete xs) = record { facts = without (entry_in ss xs) h.facts; kept = map (without_fact ss (entry_in ss xs)) h.kept }
 after ss h (keep xs) =
     record { facts = h.facts; kept = h.kept ++ (record { levels = levels_in ss xs; cells = answer ss (levels_in ss xs) h.kept } ∷ []) }
-after ss h (drop-table xs) = record { facts = h.facts; kept = dropped (levels_in ss xs) h.kept }
+after ss h (drop_table xs) = record { facts = h.facts; kept = dropped (levels_in ss xs) h.kept }
 after ss h (ask xs n) = h
 
 -- and what is told then
@@ -118,7 +118,7 @@ abbrev pub answered : Dims → House → Deed → Told
 answered ss h (insert xs) = done
 answered ss h (delete xs) = done
 answered ss h (keep xs) = done
-answered ss h (drop-table xs) = done
+answered ss h (drop_table xs) = done
 answered ss h (ask xs n) = shown (answer ss (levels_in ss xs) h.kept) (length (source ss (levels_in ss xs) h.kept).cells)
 
 abbrev pub unless : {A : Type 0} → Option Refusal → A → A → A

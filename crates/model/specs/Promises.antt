@@ -9,7 +9,7 @@ use Rattle.hierarchy.specs.Reading.{levels_refusal, levels_in, entry_in}
 use Rattle.replies.specs.declared.Refusal.{Refusal}
 use Rattle.totals.specs.Tables.{Table, table}
 use Rattle.totals.specs.Cost.{size, cost}
-use Rattle.model.specs.House.{Kept, House, Limits, Deed, insert, delete, keep, drop-table, ask, Told, done, shown, refused, empty, table_length, refusal, unless, step, told, end}
+use Rattle.model.specs.House.{Kept, House, Limits, Deed, insert, delete, keep, drop_table, ask, Told, done, shown, refused, empty, table_length, refusal, unless, step, told, end}
 
 -- the warehouse that deeds lead to from an empty one
 abbrev pub reached : Dims → Limits → List Deed → House
@@ -71,14 +71,14 @@ abbrev pub comes : Dims → Entry → Deed → ℕ
 comes ss e (insert xs) = cond (same_fact e (entry_in ss xs)) 1 0
 comes ss e (delete xs) = 0
 comes ss e (keep xs) = 0
-comes ss e (drop-table xs) = 0
+comes ss e (drop_table xs) = 0
 comes ss e (ask xs n) = 0
 
 abbrev pub goes : Dims → Entry → Deed → ℕ
 goes ss e (insert xs) = 0
 goes ss e (delete xs) = cond (same_fact e (entry_in ss xs)) 1 0
 goes ss e (keep xs) = 0
-goes ss e (drop-table xs) = 0
+goes ss e (drop_table xs) = 0
 goes ss e (ask xs n) = 0
 
 -- how often a fact came by deeds that were done, and how often it went
@@ -108,7 +108,7 @@ facts_only [] = []
 facts_only (insert xs ∷ ds) = insert xs ∷ facts_only ds
 facts_only (delete xs ∷ ds) = delete xs ∷ facts_only ds
 facts_only (keep xs ∷ ds) = facts_only ds
-facts_only (drop-table xs ∷ ds) = facts_only ds
+facts_only (drop_table xs ∷ ds) = facts_only ds
 facts_only (ask xs n ∷ ds) = ask xs n ∷ facts_only ds
 
 -- a reply without its work

@@ -2,7 +2,7 @@
 ghost use Rattle.std.specs.Prelude.{◌≡◌, ℕ, List, length, Some, None, Ok, Err};
 ghost use Rattle.hierarchy.specs.Reading.{levels_in};
 ghost use Rattle.hierarchy.specs.Views.{levels_of};
-ghost use Rattle.model.specs.House.{refusal, keep, drop-table, kept_at, source};
+ghost use Rattle.model.specs.House.{refusal, keep, drop_table, kept_at, source};
 ghost use Rattle.storage.specs.Memory.{sides, wide, limits, house_in, Memory, part_size, Does};
 ghost use Rattle.tables.specs.Ready.{kept_tables, Ready};
 
@@ -30,7 +30,7 @@ impl Layout {
     // Drops the table at the levels that are named.
     pub fn drop_table(&self, numbers: &[u64], book: &[u64], tables: &mut [u64]) -> Reply
         requires { Memory self.now book.now tables.old }
-        ensures { Does self.now (drop-table numbers.now) result book.now tables.old book.now tables.new }
+        ensures { Does self.now (drop_table numbers.now) result book.now tables.old book.now tables.new }
     {
         match self.may_drop(numbers, tables) {
             Ok(place) => {
@@ -59,7 +59,7 @@ impl Layout {
     // Where the table is kept that may be dropped, or why not. The finest is the source of all others, so it stays.
     fn may_drop(&self, numbers: &[u64], tables: &[u64]) -> Result<usize, Refusal>
         requires { Ready self.now.tables tables.now }
-        ensures { (book : List ℕ) → elim result [ Ok i ↦ (refusal (sides self.now) (limits self.now) (house_in self.now book tables.now) (drop-table numbers.now) ≡ None) × (kept_at (levels_in (sides self.now) numbers.now) 0 (kept_tables self.now.tables tables.now) ≡ Some i) | Err e ↦ refusal (sides self.now) (limits self.now) (house_in self.now book tables.now) (drop-table numbers.now) ≡ Some e ] }
+        ensures { (book : List ℕ) → elim result [ Ok i ↦ (refusal (sides self.now) (limits self.now) (house_in self.now book tables.now) (drop_table numbers.now) ≡ None) × (kept_at (levels_in (sides self.now) numbers.now) 0 (kept_tables self.now.tables tables.now) ≡ Some i) | Err e ↦ refusal (sides self.now) (limits self.now) (house_in self.now book tables.now) (drop_table numbers.now) ≡ Some e ] }
     {
         let levels = self.tables.read_levels(numbers)?;
         if self.tables.are_finest(levels) {

@@ -3,7 +3,7 @@ ghost use Rattle.std.specs.Prelude.{◌≡◌, ℕ, length};
 ghost use Rattle.summary.specs.Memory.{table_in, Whole};
 ghost use Rattle.totals.specs.Tables.{Table};
 ghost use Rattle.hierarchy.specs.Reading.{levels_in};
-ghost use Rattle.model.specs.House.{insert, delete, keep, drop-table, ask, shown, step, told};
+ghost use Rattle.model.specs.House.{insert, delete, keep, drop_table, ask, shown, step, told};
 ghost use Rattle.storage.specs.Memory.{reply_of, row_after};
 ghost use Rattle.warehouse.specs.Views.{dims_in, limits_in, house_of};
 
@@ -48,8 +48,8 @@ impl Warehouse {
 
     // The table at these levels is kept no more.
     pub fn drop_table(&mut self, numbers: &[u64]) -> Reply
-        ensures reply { result ≡ reply_of (told (dims_in self.old) (limits_in self.old) (house_of self.old) (drop-table numbers.now)) }
-        ensures house { house_of self.new ≡ step (dims_in self.old) (limits_in self.old) (house_of self.old) (drop-table numbers.now) }
+        ensures reply { result ≡ reply_of (told (dims_in self.old) (limits_in self.old) (house_of self.old) (drop_table numbers.now)) }
+        ensures house { house_of self.new ≡ step (dims_in self.old) (limits_in self.old) (house_of self.old) (drop_table numbers.now) }
         ensures same { self.new.layout ≡ self.old.layout }
     {
         self.layout

@@ -31,11 +31,11 @@ returns-in-ok-write-reply-3 c =
 
 pub returns-in-ok-write-reply-4 : goal.returns-in-ok-write-reply-4
 returns-in-ok-write-reply-4 c =
-    acted (dims_in c.args.house.now) (limits_in c.args.house.now) (house_of c.args.house.now) (house_of c.drop-table.new.self) (length c.args.out.now) c.args.kind
-    Drop c.args.numbers.now c.drop-table.result (string_bytes c.args.text.now) (string_bytes c.write-reply-in-Drop.new.text)
-    (c.drop-table.new.self.layout ≡ c.args.house.now.layout) c.in-Drop.is
-    (plain_drop (dims_in c.args.house.now) (limits_in c.args.house.now) (house_of c.args.house.now) c.args.numbers.now) c.drop-table.ensures.reply
-    c.drop-table.ensures.house c.in-ok-write-reply-4.ensures c.drop-table.ensures.same
+    acted (dims_in c.args.house.now) (limits_in c.args.house.now) (house_of c.args.house.now) (house_of c.drop_table.new.self) (length c.args.out.now) c.args.kind
+    Drop c.args.numbers.now c.drop_table.result (string_bytes c.args.text.now) (string_bytes c.write-reply-in-Drop.new.text)
+    (c.drop_table.new.self.layout ≡ c.args.house.now.layout) c.in-Drop.is
+    (plain_drop (dims_in c.args.house.now) (limits_in c.args.house.now) (house_of c.args.house.now) c.args.numbers.now) c.drop_table.ensures.reply
+    c.drop_table.ensures.house c.in-ok-write-reply-4.ensures c.drop_table.ensures.same
 
 pub returns-in-ok-answer : goal.returns-in-ok-answer
 returns-in-ok-answer c =

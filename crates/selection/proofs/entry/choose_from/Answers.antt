@@ -11,20 +11,20 @@ use Rattle.greedy.specs.Turns.{SizesAre, TurnsAre}
 use Rattle.selection.proofs.Sized.{sizes_of_facts, sizes_counted}
 use Rattle.selection.proofs.entry.choose_from.Goals as goal
 
-pub choose-by-sizes-requires : goal.choose-by-sizes-requires
-choose-by-sizes-requires c =
+pub choose_by_sizes-requires : goal.choose_by_sizes-requires
+choose_by_sizes-requires c =
     rw c.deref.ensures.value
-    (sizes_counted (dims_of c.args.dims.now) c.args.row.now (vec_items c.in-ok-counted.counted) c.in-ok-counted.ensures c.requires.few)
+    (sizes_counted (dims_of c.args.dims.now) c.args.row.now (vec_items c.in_ok-counted.counted) c.in_ok-counted.ensures c.requires.few)
 
 pub returns : goal.returns
 returns c =
     let ss = dims_of c.args.dims.now in
-    IfOk-weaker c.choose-by-sizes.result
+    IfOk-weaker c.choose_by_sizes.result
     (λ v. (vec_len v ≡ c.args.n) × ((sz : Row → ℕ) → SizesAre ss sz c.deref.result.now → TurnsAre ss sz (vec_items v)))
     (λ v. (vec_len v ≡ c.args.n) × ((es : List Entry) → table_in (length ss) c.args.row.now ≡ table ss (finest ss) es → TurnsAre ss (size ss es) (vec_items v)))
     (λ v h. (
       h.0,
       λ es e. h.1 (size ss es) (rw c.deref.ensures.value
-          (sizes_of_facts ss c.args.row.now (vec_items c.in-ok-counted.counted) es c.in-ok-counted.ensures c.requires.levels e)),
+          (sizes_of_facts ss c.args.row.now (vec_items c.in_ok-counted.counted) es c.in_ok-counted.ensures c.requires.levels e)),
     ))
-    c.choose-by-sizes.ensures
+    c.choose_by_sizes.ensures

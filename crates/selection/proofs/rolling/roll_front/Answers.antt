@@ -10,8 +10,8 @@ roll-requires c =
       width = c.of.ensures;
       sound = rw c.of.ensures c.requires.sound;
       room = rw c.of.ensures (omega (arith, c.requires.sound.whole, c.requires.room));
-      count-fits = rw c.of.ensures c.requires.count-fits;
-      sum-fits = rw c.of.ensures c.requires.sum-fits;
+      count_fits = rw c.of.ensures c.requires.count_fits;
+      sum_fits = rw c.of.ensures c.requires.sum_fits;
     }
 
 pub returns-then-levels-last-eq0 : goal.returns-then-levels-last-eq0

@@ -9,8 +9,8 @@ roll-requires c =
       width = c.of-shape.ensures;
       sound = rw c.of-shape.ensures c.requires.sound;
       room = rw c.of-shape.ensures (omega (arith, c.requires.sound.whole, c.requires.room));
-      count-fits = rw c.of-shape.ensures c.requires.count-fits;
-      sum-fits = rw c.of-shape.ensures c.requires.sum-fits;
+      count_fits = rw c.of-shape.ensures c.requires.count_fits;
+      sum_fits = rw c.of-shape.ensures c.requires.sum_fits;
     }
 
 pub count-requires : goal.count-requires

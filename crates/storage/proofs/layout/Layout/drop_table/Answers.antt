@@ -1,6 +1,6 @@
 use Rattle.std.proofs.Common.{List, sym, refl, ◌∙◌, subst, arith}
 use Rattle.hierarchy.specs.Reading.{levels_in}
-use Rattle.model.specs.House.{Kept, drop-table}
+use Rattle.model.specs.House.{Kept, drop_table}
 use Rattle.storage.specs.Memory.{sides, wide, part_size}
 use Rattle.tables.specs.Ready.{kept_tables, Left}
 use Rattle.model.proofs.Laws.{found}
@@ -23,10 +23,10 @@ returns-in-Ok c =
     let accepted = c.in-Ok.ensures c.args.book.now in
     let at = found (levels_in (sides l) c.args.numbers.now) c.in-Ok.place (kept_tables l.tables c.args.tables.now) accepted.1 in
     let left = subst (λ (ks : List Kept). Left l.tables ks c.remove.new.tables) (sym at.rest) c.remove.ensures in
-    does_done l (drop-table c.args.numbers.now) c.args.book.now c.args.tables.now c.args.book.now c.remove.new.tables c.requires
+    does_done l (drop_table c.args.numbers.now) c.args.book.now c.args.tables.now c.args.book.now c.remove.new.tables c.requires
     accepted.0 refl c.requires.booked refl (c.remove.auto.tables ∙ c.requires.long) left
 
 pub returns-in-Err : goal.returns-in-Err
 returns-in-Err c =
-    does_refused c.args.self.now (drop-table c.args.numbers.now) c.in-Err.refusal c.args.book.now c.args.tables.now c.requires
+    does_refused c.args.self.now (drop_table c.args.numbers.now) c.in-Err.refusal c.args.book.now c.args.tables.now c.requires
     (c.in-Err.ensures c.args.book.now)
