@@ -52,5 +52,6 @@ pub fn write_table(text: &mut String, shape: Shape, row: &[u64]) -> fmt::Result
 pub fn write_reply(text: &mut String, reply: Reply) -> fmt::Result
     ensures { OnOk result (string_bytes text.new ≡ string_bytes text.old ++ reply_line reply) }
 {
-    writeln!(text, "{reply}")
+    writeln!(text, "{reply}")?;
+    Ok(())
 }

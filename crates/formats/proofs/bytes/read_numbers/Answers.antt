@@ -8,7 +8,7 @@ pub loop-i-preserved : goal.loop-i-preserved
 loop-i-preserved c =
     let f : ℕ → ℕ = λ i. number (drop (4 * i) c.args.bytes.now) in
     let P : ℕ → Type 0 = λ v. (k : ℕ) → k < c.loop-i.i + 1 → get_or (set c.loop-i.row c.loop-i.i v) k 0 ≡ f k in
-    subst P (sym c.number-at.ensures) (fill_by_more f c.loop-i.row c.loop-i.i 0 (omega arith) c.loop-i.invariant)
+    subst P (sym c.number_at.ensures) (fill_by_more f c.loop-i.row c.loop-i.i 0 (omega arith) c.loop-i.invariant)
 
 pub returns : goal.returns
 returns c =

@@ -5,6 +5,6 @@ use Rattle.formats.proofs.bytes.read_row.Goals as goal
 
 pub returns : goal.returns
 returns c =
-    let long : length c.deref-mut.result.now ≡ length c.args.bytes.now / 4 = omega (arith, c.in-ok-row.ensures.made) in
-    with_items_is c.in-ok-row.row c.read-numbers.new.row (omega (arith, c.in-ok-row.ensures.made))
-    ∙ (c.read-numbers.ensures ∙ ap (λ k. numbers k c.args.bytes.now) long)
+    let long : length c.deref_mut.result.now ≡ length c.args.bytes.now / 4 = omega (arith, c.in_ok-row.ensures.len) in
+    with_items_is c.in_ok-row.row c.read_numbers.new.row (omega (arith, c.in_ok-row.ensures.len))
+    ∙ (c.read_numbers.ensures ∙ ap (λ k. numbers k c.args.bytes.now) long)

@@ -10,5 +10,5 @@ returns c =
     let group = c.args.group in
     let place = place_text (take c.args.width group.place) in
     let behind = codes ": " ++ (decimal group.count ++ (codes " " ++ (decimal group.sum ++ (10 ∷ [])))) in
-    let e : string_bytes c.write-numbers.new.text ≡ start ++ place = simp sub-zero at c.in-ok-write-numbers.ensures in
-    pieces_two start place behind (string_bytes c.write-numbers.new.text) (string_bytes c.writeln.new.self) e c.in-ok-writeln.ensures.bytes
+    let e : string_bytes c.write_numbers.new.text ≡ start ++ place = simp sub-zero at c.in_ok-write_numbers.ensures in
+    pieces_two start place behind (string_bytes c.write_numbers.new.text) (string_bytes c.writeln.new.self) e c.in_ok-writeln.ensures.bytes

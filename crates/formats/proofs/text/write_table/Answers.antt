@@ -14,8 +14,8 @@ loop-i-preserved c =
     let before = string_bytes c.loop-i.text in
     let cell : cell_of c.width-width.result c.group.result ≡ get_or t c.loop-i.i none =
     ap (λ v. cell_of v c.group.result) c.width-width.ensures ∙ c.group.ensures.cell in
-    let after = string_bytes c.write-group.new.text in
-    let line : after ≡ before ++ line_text (get_or t c.loop-i.i none) = subst (λ g. after ≡ before ++ line_text g) cell c.in-ok-write-group.ensures in
+    let after = string_bytes c.write_group.new.text in
+    let line : after ≡ before ++ line_text (get_or t c.loop-i.i none) = subst (λ g. after ≡ before ++ line_text g) cell c.in_ok-write_group.ensures in
     piece_more line_text (string_bytes c.args.text.now) t c.loop-i.i none before after (omega (arith, long)) c.loop-i.invariant line
 
 pub returns : goal.returns
