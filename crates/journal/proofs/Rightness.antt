@@ -1,21 +1,20 @@
 -- Every answer in a day's text is the table of the facts that came before it and did not go. Assumes nothing.
-use Rattle.std.proofs.Common.{◌≡◌, ℕ, ◌+◌, ◌*◌, ◌<◌, ◌≤◌, List, [], ◌∷◌, ◌++◌, length, get_or, Some, None, Option, sym, refl, ap, ◌∙◌, subst, append_assoc, mul-le-mul_right, arith}
+use Rattle.std.proofs.Common.{◌≡◌, ℕ, ◌+◌, ◌*◌, ◌≤◌, List, [], ◌∷◌, ◌++◌, length, get_or, Option, sym, refl, ap, ◌∙◌, subst, append_assoc, mul-le-mul_right, arith}
 use Rattle.hierarchy.specs.Dimensions.{Dims, Row}
 use Rattle.hierarchy.specs.Levels.{finest}
-use Rattle.hierarchy.specs.Reading.{dims_refusal, levels_refusal, dims_in}
 use Rattle.hierarchy.proofs.Theory.{read_right}
 use Rattle.replies.specs.declared.Refusal.{Refusal}
 use Rattle.replies.specs.declared.Reply.TheVariants.{Shown}
 use Rattle.totals.specs.Cost.{size}
 use Rattle.totals.specs.Tables.{Table}
-use Rattle.model.specs.House.{House, Kept, Limits, Deed, ask, Told, shown, empty, step, told, end, table_length}
+use Rattle.model.specs.House.{House, Kept, Limits, Deed, ask, shown, empty, step, told, end, table_length}
 use Rattle.model.specs.Promises.{reached}
 use Rattle.model.proofs.Laws.{step_ask}
 use Rattle.model.proofs.Theory.{always_sound, within_limits, always_answered, totals_right, facts_balance}
 use Rattle.tables.specs.Rooms.{limits_of, row_of}
 use Rattle.tables.specs.declared.room.Room.{Room}
 use Rattle.formats.specs.Bytes.{Bytes, sides_of}
-use Rattle.journal.specs.Answers.{Answered, AnswersRight}
+use Rattle.journal.specs.Answers.{AnswersRight}
 use Rattle.formats.specs.Text.{table_text, reply_line}
 use Rattle.journal.specs.Days.{day_dims, day_deeds, day_text, text_or_refusal}
 use Rattle.journal.specs.Replies.{told_text, replies}

@@ -1,10 +1,10 @@
 -- What is told of one deed, and of the deeds that are left. Assumes nothing.
-use Rattle.std.proofs.Common.{◌≡◌, ℕ, ◌+◌, ◌<◌, Bool, false, eqb, List, [], ◌∷◌, ◌++◌, length, take, Some, None, Option, sym, refl, ap, ◌∙◌, subst, append_assoc, append-nil, arith}
+use Rattle.std.proofs.Common.{◌≡◌, ℕ, Bool, false, eqb, List, [], ◌∷◌, ◌++◌, length, take, Some, None, Option, sym, refl, ap, ◌∙◌, append_assoc, append-nil, arith}
 use Rattle.std.proofs.lemmas.Bool.{ne_eqb}
 use Rattle.hierarchy.specs.Dimensions.{Dims, Row}
 use Rattle.replies.specs.declared.Refusal.{Refusal}
 use Rattle.replies.specs.declared.Reply.{Reply}
-use Rattle.replies.specs.declared.Reply.TheVariants.{Done, Shown, Refused}
+use Rattle.replies.specs.declared.Reply.TheVariants.{Shown}
 use Rattle.totals.specs.Tables.{Table}
 use Rattle.model.specs.House.{House, Limits, Deed, insert, delete, keep, drop_table, ask, Told, done, shown, refused, or_refused, refusal, empty, step, told}
 use Rattle.storage.specs.Memory.{sides, limits, reply_of}
@@ -118,7 +118,7 @@ run_whole w (b ∷ bs) none = ne_eqb (length (b ∷ bs)) 0 (λ e. omega arith) �
 
 -- the run begins with an empty warehouse
 pub begun : (house : Warehouse) (layout : Layout) (dims : Dimensions) (lim : Limits) (w n : ℕ) (bs : Bytes) (t : List ℕ) → house.layout ≡ layout
-    → house_of house ≡ empty (sides layout) → layout.dims ≡ dims → limits layout ≡ lim → w ≡ length (dims_of dims)
+    → house_of house ≡ empty (sides layout) → layout.tables.dims ≡ dims → limits layout ≡ lim → w ≡ length (dims_of dims)
     → t ++ replies (dims_in house) (limits_in house) (house_of house) (deeds_in w n bs)
     ≡ t ++ replies (dims_of dims) lim (empty (dims_of dims)) (deeds_in (length (dims_of dims)) n bs)
 begun house layout dims lim w n bs t a b c d f =

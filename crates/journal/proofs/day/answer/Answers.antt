@@ -6,14 +6,14 @@ use Rattle.replies.specs.declared.Reply.{Reply}
 use Rattle.formats.specs.Text.{table_text, reply_line}
 use Rattle.journal.proofs.Telling.{told_shown, shown_text, plain_text}
 use Rattle.journal.proofs.day.answer.Goals as goal
-use Rattle.journal.proofs.day.answer.Goals.{in-Shown+in-ok-write-table, in_default}
+use Rattle.journal.proofs.day.answer.Goals.{in-Shown+in_ok-write_table, in_default}
 
 pub returns : goal.returns
 returns c =
     let d = told (dims_in c.args.house.now) (limits_in c.args.house.now) (house_of c.args.house.now) (ask c.args.numbers.now (length c.args.out.now)) in
     let last = c.in_ok-write_reply.ensures in
     elim c.match-reply.branch [
-      | in-Shown+in-ok-write-table w ↦
+      | in-Shown+in_ok-write_table w ↦
           let n = w.in-Shown.field-0 in
           let answer = told_shown d n (sym w.in-Shown.is ∙ c.ask-reply.ensures.reply) in
           let held = c.ask-reply.ensures.shown answer.0 n answer.1 in

@@ -31,7 +31,7 @@ pub returns : goal.returns
 returns c =
     let none = c.in_default.ensures in
     let start = c.in_ok-house.ensures in
-    let long : vec_len c.in_ok-out.out ≡ row_of c.args.room = omega (arith, c.in_ok-out.ensures.made, c.row_length.ensures) in
+    let long : vec_len c.in_ok-out.out ≡ row_of c.args.room = omega (arith, c.in_ok-out.ensures.len, c.row_length.ensures) in
     let first = begun c.in_ok-house.house c.new.result c.args.dims (limits_of c.args.room) c.width-width.result (row_of c.args.room) c.args.bytes.now
     (string_bytes c.args.text.now) start.0 start.1 c.new.ensures.0 c.new.ensures.1 c.width-width.ensures.0 in
     let before = c.loop-step.invariant.2
