@@ -63,7 +63,7 @@ printed_so ss lim before after xs n work t u text is answer same =
     ∙ ap (λ (g : House). (table_text u ++ reply_line (Shown work)) ++ replies ss lim g after) stays) in
     is ∙ (replies_append ss lim (empty ss) before (ask xs n ∷ after) ∙ ap (λ (x : List ℕ). replies ss lim (empty ss) before ++ x) rest)
 
-pub answers_right : (room : Room) (bs : Bytes) → AnswersRight room bs (day_text (limits_of room) (row_of room) bs)
+pub answers_right : (room : Room) (bs : Bytes) → AnswersRight (limits_of room) (row_of room) bs (day_text (limits_of room) (row_of room) bs)
 answers_right room bs before after xs good deeds there =
     let ss = day_dims bs in
     let lim = limits_of room in
@@ -82,5 +82,5 @@ answers_right room bs before after xs good deeds there =
       attained = right.2;
     }
 
-pub right_so : (room : Room) (bs : Bytes) (text : List ℕ) → text ≡ day_text (limits_of room) (row_of room) bs → AnswersRight room bs text
-right_so room bs text is = subst (λ (x : List ℕ). AnswersRight room bs x) (sym is) (answers_right room bs)
+pub right_so : (room : Room) (bs : Bytes) (text : List ℕ) → text ≡ day_text (limits_of room) (row_of room) bs → AnswersRight (limits_of room) (row_of room) bs text
+right_so room bs text is = subst (λ (x : List ℕ). AnswersRight (limits_of room) (row_of room) bs x) (sym is) (answers_right room bs)

@@ -9,8 +9,6 @@ use Rattle.totals.specs.Cost.{size}
 use Rattle.totals.specs.Tables.{table}
 use Rattle.model.specs.House.{Kept, Limits, Deed, ask, empty}
 use Rattle.model.specs.Promises.{reached, came, went}
-use Rattle.tables.specs.Rooms.{limits_of, row_of}
-use Rattle.tables.specs.declared.room.Room.{Room}
 use Rattle.formats.specs.Bytes.{Bytes, sides_of}
 use Rattle.formats.specs.Text.{table_text, reply_line}
 use Rattle.journal.specs.Days.{day_dims, day_deeds}
@@ -35,8 +33,8 @@ pub record Answered (ss : Dims) (lim : Limits) (before after : List Deed) (xs : 
       × (work ≡ size ss facts (slice_index_or (reached ss lim before).kept i d).levels)
 
 -- a text in which every question of a file is answered so: its dimensions are read, and the question's levels are there
-abbrev pub AnswersRight : Room → Bytes → List ℕ → Type 0
-AnswersRight room bs text =
+abbrev pub AnswersRight : Limits → ℕ → Bytes → List ℕ → Type 0
+AnswersRight lim n bs text =
     (before after : List Deed) (xs : Row) → dims_refusal (sides_of bs) ≡ None
-    → day_deeds (row_of room) bs ≡ before ++ (ask xs (row_of room) ∷ after) → levels_refusal (day_dims bs) xs ≡ None
-    → Answered (day_dims bs) (limits_of room) before after xs text
+    → day_deeds n bs ≡ before ++ (ask xs n ∷ after) → levels_refusal (day_dims bs) xs ≡ None
+    → Answered (day_dims bs) lim before after xs text

@@ -6,6 +6,7 @@ ghost use Rattle.warehouse.specs.Views.{dims_in, limits_in, house_of};
 ghost use Rattle.journal.specs.Answers.{AnswersRight};
 ghost use Rattle.journal.specs.Days.{day_text, day_whole};
 ghost use Rattle.journal.specs.Deeds.{deed_of, deeds_in, is_whole};
+ghost use Rattle.journal.specs.Room.{replay_limits, replay_row};
 ghost use Rattle.tables.specs.Rooms.{limits_of, row_of};
 ghost use Rattle.journal.specs.Replies.{told_text, replies};
 
@@ -21,6 +22,14 @@ use storage::Layout;
 use tables::Room;
 use warehouse::Warehouse;
 
+// Room for so many facts, and so many groups a table.
+pub const FACTS: usize = 256;
+
+pub const GROUPS: usize = 64;
+
+// A row that holds any table of so many groups: four levels, the count, and six numbers a group.
+pub const ROW: usize = 389;
+
 // What was told, and whether the file ended right behind a deed.
 #[derive(Drop)]
 pub struct Day {
@@ -28,10 +37,18 @@ pub struct Day {
     pub whole: bool,
 }
 
+// The day of a file.
+pub fn replay(heap: Global, bytes: &[u8]) -> Result<Day, NoMemory>
+    ensures text { IfOk result (λ d. (string_bytes d.text ≡ day_text replay_limits replay_row bytes.now) × (d.whole ≡ day_whole bytes.now)) }
+    ensures answers { IfOk result (λ d. AnswersRight replay_limits replay_row bytes.now (string_bytes d.text)) }
+{
+    replay_in(heap, Room::new(FACTS, GROUPS).unwrap(), bytes)
+}
+
 // The day of a file, in a warehouse with so much room.
-pub fn replay(heap: Global, room: Room, bytes: &[u8]) -> Result<Day, NoMemory>
+pub fn replay_in(heap: Global, room: Room, bytes: &[u8]) -> Result<Day, NoMemory>
     ensures text { IfOk result (λ d. (string_bytes d.text ≡ day_text (limits_of room) (row_of room) bytes.now) × (d.whole ≡ day_whole bytes.now)) }
-    ensures answers { IfOk result (λ d. AnswersRight room bytes.now (string_bytes d.text)) }
+    ensures answers { IfOk result (λ d. AnswersRight (limits_of room) (row_of room) bytes.now (string_bytes d.text)) }
 {
     let sides = read_sides(heap, bytes)?;
     let mut text = String::new(heap);
@@ -64,7 +81,7 @@ fn run(
     ensures { IfOk result (λ whole. (string_bytes text.new ≡ string_bytes text.old ++ replies (dims_of dims) (limits_of room) (empty (dims_of dims)) (deeds_in (length (dims_of dims)) (row_of room) bytes.now)) × (whole ≡ is_whole (length (dims_of dims)) bytes.now)) }
 {
     let width = dims.width();
-    let mut house = Warehouse::open(heap, Layout::new(dims, room))?;
+    let mut house = Warehouse::open(heap, Layout::with_room(dims, room))?;
     let mut out = vec![in heap; 0; room.row_length()]?;
     let mut rest = bytes;
     while let Some(step) = next_deed(width, rest) {

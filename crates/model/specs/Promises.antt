@@ -1,7 +1,7 @@
 -- What a warehouse promises, for any dimensions, any room, and every list of deeds from an empty warehouse. Each is a statement; a
 -- function's contract asks for its proof. Assumes nothing.
 use Rattle.std.specs.Prelude.{◌≡◌, ℕ, ◌+◌, ◌^◌, ◌<◌, ◌≤◌, true, cond, List, [], ◌∷◌, map, length, get_or, Some, None, slice_index, slice_index_or}
-use Rattle.std.specs.List.{AllByRecursion as All}
+use Rattle.std.specs.List.{AllByRecursion}
 use Rattle.hierarchy.specs.Dimensions.{Dims, Row}
 use Rattle.hierarchy.specs.Levels.{are_levels, no_coarser, finest}
 use Rattle.hierarchy.specs.Facts.{Entry, same_fact, copies}
@@ -34,10 +34,10 @@ pub record Whole (ss : Dims) (e : Entry) : Type 0 where
 -- a warehouse as deeds leave it: it is sound, its facts are whole, and all is within its room
 pub record Valid (ss : Dims) (lim : Limits) (h : House) : Type 0 where
   pub sound : Sound ss h
-  pub whole : All (Whole ss) h.facts
+  pub whole : AllByRecursion (Whole ss) h.facts
   pub few : length h.facts ≤ lim.facts
   pub tables : length h.kept ≤ 16
-  pub groups : All (λ k. length k.cells ≤ lim.groups) h.kept
+  pub groups : AllByRecursion (λ k. length k.cells ≤ lim.groups) h.kept
 
 -- every fact that is there is whole
 abbrev pub FactsWhole : Type 0

@@ -1,5 +1,5 @@
 // How much memory a warehouse takes.
-ghost use Rattle.std.specs.Prelude.{◌≡◌, ◌+◌, ◌*◌, ◌^◌, ◌<◌, length};
+ghost use Rattle.std.specs.Prelude.{◌≡◌, ◌+◌, ◌*◌, ◌^◌, ◌<◌, ◌&&◌, length, is_some, IfSome, nat_le};
 ghost use Rattle.storage.specs.Memory.{wide, limits, part_size, book_size};
 ghost use Rattle.tables.specs.Memory.{part};
 ghost use Rattle.tables.specs.Rooms.{limits_of};
@@ -11,8 +11,16 @@ use summary::Shape;
 use tables::{Room, TableLayout};
 
 impl Layout {
+    // For these dimensions, with room for so many facts and so many groups a table, if that is not too much.
+    pub fn new(dims: Dimensions, facts: usize, groups: usize) -> Option<Layout>
+        ensures test { is_some result ≡ (nat_le facts (2 ^ 32) && nat_le groups (2 ^ 32)) }
+        ensures value { IfSome result (λ l. (l.tables.dims ≡ dims) × (l.book.room ≡ facts) × (l.tables.groups ≡ groups)) }
+    {
+        Some(Layout::with_room(dims, Room::new(facts, groups)?))
+    }
+
     // For these dimensions, with so much room.
-    pub fn new(dims: Dimensions, room: Room) -> Layout
+    pub fn with_room(dims: Dimensions, room: Room) -> Layout
         ensures { (result.tables.dims ≡ dims) × (limits result ≡ limits_of room) }
     {
         Layout {

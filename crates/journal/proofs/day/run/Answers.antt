@@ -32,8 +32,8 @@ returns c =
     let none = c.in_default.ensures in
     let start = c.in_ok-house.ensures in
     let long : vec_len c.in_ok-out.out ≡ row_of c.args.room = omega (arith, c.in_ok-out.ensures.len, c.row_length.ensures) in
-    let first = begun c.in_ok-house.house c.new.result c.args.dims (limits_of c.args.room) c.width-width.result (row_of c.args.room) c.args.bytes.now
-    (string_bytes c.args.text.now) start.0 start.1 c.new.ensures.0 c.new.ensures.1 c.width-width.ensures.0 in
+    let first = begun c.in_ok-house.house c.with_room.result c.args.dims (limits_of c.args.room) c.width-width.result (row_of c.args.room) c.args.bytes.now
+    (string_bytes c.args.text.now) start.0 start.1 c.with_room.ensures.0 c.with_room.ensures.1 c.width-width.ensures.0 in
     let before = c.loop-step.invariant.2
     ∙ (ap (λ (n : ℕ). string_bytes c.args.text.now ++ replies (dims_in c.in_ok-house.house) (limits_in c.in_ok-house.house) (house_of c.in_ok-house.house) (deeds_in c.width-width.result n c.args.bytes.now)) long
     ∙ first) in (

@@ -7,7 +7,7 @@ use Rattle.tables.specs.Rooms.{limits_of, row_of}
 use Rattle.journal.specs.Replies.{replies}
 use Rattle.journal.proofs.Rightness.{right_so}
 use Rattle.journal.proofs.Telling.{day_done}
-use Rattle.journal.proofs.day.replay.Goals as goal
+use Rattle.journal.proofs.day.replay_in.Goals as goal
 
 pub returns : goal.returns
 returns c =
