@@ -5,5 +5,5 @@ pub mod day;
 pub mod deed;
 pub mod theorems;
 
-pub use day::{Day, replay};
+pub use day::{Day, replay, replay_in};
 pub use deed::{Kind, Step};

@@ -34,7 +34,7 @@ fn input(rt: &HostRuntime, path: Option<String>) -> anyhow::Result<Vec<u8>> {
 
 // Prints the day of a file.
 fn tell(rt: &HostRuntime, room: Room, bytes: &[u8]) -> anyhow::Result<()> {
-    match journal::replay(rt.alloc(), room, bytes) {
+    match journal::replay_in(rt.alloc(), room, bytes) {
         Ok(day) => {
             rt.stdout().write_all(day.text.as_bytes())?;
             if day.whole {
