@@ -24,6 +24,7 @@ impl Layout {
             return Reply::Refused(Refusal::NoRoom(out.len()));
         }
         self.tables.roll(tables, from, levels, out);
-        Reply::Shown(self.tables.groups_at(tables, from))
+        let groups = self.tables.groups_at(tables, from);
+        Reply::Shown(groups)
     }
 }

@@ -13,6 +13,7 @@ use replies::{Refusal, Reply};
 
 impl Layout {
     // One fact equal to this one, the newest, goes, if there is one.
+    #[tactic(auto, using(crate::proofs::Deletes::few_tables))]
     pub fn delete(&self, numbers: &[u64], book: &mut [u64], tables: &mut [u64]) -> Reply
         requires { Memory self.now book.old tables.old }
         ensures { Does self.now (delete numbers.now) result book.old tables.old book.new tables.new }

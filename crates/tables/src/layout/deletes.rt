@@ -18,7 +18,8 @@ impl TableLayout {
         ensures { Each (part_size self.now) (WithoutFact self.now (entry_of (wide self.now) fact)) (slice_index tables.old 0) tables.old tables.new }
     {
         let length = self.part_length();
-        for t in 0..self.kept(tables) {
+        let kept = self.kept(tables);
+        for t in 0..kept {
             let at = self.at(t);
             self.take(&mut tables[at..at + length], fact);
         }

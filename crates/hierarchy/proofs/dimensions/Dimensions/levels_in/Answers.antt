@@ -1,15 +1,23 @@
-use Rattle.std.proofs.Common.{get_or, sym, ◌∙◌, arith}
-use Rattle.hierarchy.specs.Views.{dims_of}
+use Rattle.std.proofs.Common.{◌≡◌, ◌+◌, ◌<◌, ◌≤◌, ℕ, length, get_or, sym, ◌∙◌, arith}
+use Rattle.hierarchy.specs.Levels.{levels_in_dimension}
+use Rattle.hierarchy.specs.Views.{factors_of, dims_of}
+use Rattle.hierarchy.specs.declared.dimension.Dimension.{Dimension}
+use Rattle.hierarchy.specs.declared.dimensions.Dimensions.{Dimensions}
 use Rattle.hierarchy.proofs.Counting.{levels_there, levels_past}
 use Rattle.hierarchy.proofs.Widths.{dims_at, dims_length, few_factors}
 use Rattle.hierarchy.proofs.dimensions.Dimensions.levels_in.Goals as goal
 
+-- by what the struct at i answers
+levels_by : (dims : Dimensions) (i n : ℕ) (z : Dimension) → i < dims.width → n ≡ length (factors_of (get_or dims.each i z)) + 2
+    → (n ≡ levels_in_dimension (dims_of dims) i) × ((1 ≤ n) × (n ≤ 6))
+levels_by dims i n z h is =
+    let at = dims_at dims i z h in
+    let there = levels_there (dims_of dims) i (omega (arith, dims_length dims)) in
+    let few = few_factors (get_or dims.each i z) in
+    (is ∙ sym (rw at at there), (omega (arith, is), omega (arith, is, few)))
+
 pub returns-then-i-self : goal.returns-then-i-self
-returns-then-i-self c =
-    let at = dims_at c.args.self.now c.args.i c.index-self-i.result c.if-i-self.true in
-    let there = levels_there (dims_of c.args.self.now) c.args.i (omega (arith, dims_length c.args.self.now)) in
-    let few = few_factors (get_or c.args.self.now.each c.args.i c.index-self-i.result) in
-    (c.level_count.ensures ∙ sym (rw at at there), (omega (arith, c.level_count.ensures), omega (arith, c.level_count.ensures, few)))
+returns-then-i-self c = levels_by c.args.self.now c.args.i c.level_count.result _ c.if-i-self.true c.level_count.ensures
 
 pub returns-else-i-self : goal.returns-else-i-self
 returns-else-i-self c =

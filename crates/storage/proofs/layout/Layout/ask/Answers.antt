@@ -27,8 +27,8 @@ pub length_at-requires : goal.length_at-requires
 length_at-requires c =
     (memory_ready c.args.self.now c.args.book.now c.args.tables.now c.requires, c.source-from.ensures.0)
 
-pub groups_at-requires : goal.groups_at-requires
-groups_at-requires c =
+pub groups_at-groups-requires : goal.groups_at-groups-requires
+groups_at-groups-requires c =
     (memory_ready c.args.self.now c.args.book.now c.args.tables.now c.requires, c.source-from.ensures.0)
 
 pub returns-then-out-length_at : goal.returns-then-out-length_at
@@ -64,4 +64,4 @@ returns c =
     let m = read_are l.tables c.in-Ok.levels c.args.numbers.now there c.in-Ok.ensures.1 in
     let r = asked_shown l c.args.numbers.now (levels_of (wide l) c.in-Ok.levels) c.source-from.result (length c.args.out.now) c.args.book.now
     c.args.tables.now c.args.out.now c.roll.new.to there m c.source-from.ensures.1 (rw (← c.length_at.ensures) c.if-out-length_at.false) c.roll.ensures.after in
-    record { reply = rw c.groups_at.ensures r.0; row = r.1 }
+    record { reply = rw c.groups_at-groups.ensures r.0; row = r.1 }

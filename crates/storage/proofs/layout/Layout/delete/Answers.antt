@@ -4,7 +4,7 @@ use Rattle.replies.specs.declared.Reply.TheVariants.{Refused}
 use Rattle.hierarchy.proofs.Widths.{dims_few}
 use Rattle.model.specs.House.{delete}
 use Rattle.storage.specs.Memory.{sides, Does}
-use Rattle.storage.proofs.Deletes.{nothing_deleted, deleted_done, refused_fact, few_tables}
+use Rattle.storage.proofs.Deletes.{nothing_deleted, deleted_done, refused_fact}
 use Rattle.storage.proofs.Inserts.{read_entry}
 use Rattle.storage.proofs.Rebuilt.{does_refused}
 use Rattle.storage.proofs.layout.Layout.delete.Goals as goal
@@ -19,17 +19,6 @@ returns-then-not-strike c =
     (sym (struck.none refl))
     (does_refused c.args.self.now (delete c.args.numbers.now) NoSuchFact c.args.book.now c.args.tables.now c.requires none)
 
-pub take_all-requires : goal.take_all-requires
-take_all-requires c =
-    let read = c.in-Ok.ensures in
-    let entry = read_entry (sides c.args.self.now) c.args.numbers.now c.in-Ok.fact (dims_few c.args.self.now.tables.dims) read.0 read.1 read.2 in
-    record {
-      long = c.requires.long;
-      few = few_tables c.args.self.now c.args.book.now c.args.tables.now c.requires;
-      wide = entry.1;
-      sound = c.requires.sound;
-    }
-
 pub returns-in-Err : goal.returns-in-Err
 returns-in-Err c =
     does_refused c.args.self.now (delete c.args.numbers.now) c.in-Err.refusal c.args.book.now c.args.tables.now c.requires
@@ -41,4 +30,4 @@ returns-else-not-strike c =
     let entry = read_entry (sides c.args.self.now) c.args.numbers.now c.in-Ok.fact (dims_few c.args.self.now.tables.dims) read.0 read.1 read.2 in
     let struck = c.if-not-strike.ensures in
     deleted_done c.args.self.now c.args.book.now c.args.tables.now c.requires c.args.numbers.now c.in-Ok.fact read.0 entry.0
-    c.strike.new.book c.take_all.new.tables struck.told struck.facts struck.holds c.take_all.auto.tables c.take_all.ensures
+    _ _ struck.told struck.facts struck.holds (search c) (assumption c)

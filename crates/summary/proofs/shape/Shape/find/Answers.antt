@@ -24,9 +24,6 @@ loop-low-preserved-in-Less c =
       c.loop-low.invariant.3,
     )
 
-pub returns-in-Equal : goal.returns-in-Equal
-returns-in-Equal c = (omega arith, c.in-Equal.ensures)
-
 pub loop-low-preserved : goal.loop-low-preserved
 loop-low-preserved c =
     let t = table_in c.args.self.width c.args.row.now in

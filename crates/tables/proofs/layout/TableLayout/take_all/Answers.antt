@@ -8,12 +8,12 @@ use Rattle.tables.proofs.layout.TableLayout.take_all.Goals as goal
 
 pub slice_bounds-take-end : goal.slice_bounds-take-end
 slice_bounds-take-end c =
-    let t : c.loop-t.t < 16 = omega (arith, c.loop-t-test.true, c.kept-t-end.ensures, c.requires.few) in
+    let t : c.loop-t.t < 16 = omega (arith, c.loop-t-test.true, c.kept-kept.ensures, c.requires.few) in
     omega (arith, c.requires.long, c.at-at.ensures.0, c.part_length-length.ensures.0, within (part_size c.args.self.now) c.loop-t.t t, c.loop-t.auto.tables)
 
 pub loop-t-preserved : goal.loop-t-preserved
 loop-t-preserved c =
-    let t : c.loop-t.t < 16 = omega (arith, c.loop-t-test.true, c.kept-t-end.ensures, c.requires.few) in
+    let t : c.loop-t.t < 16 = omega (arith, c.loop-t-test.true, c.kept-kept.ensures, c.requires.few) in
     let k : (c.at-at.result + c.part_length-length.result) - c.at-at.result ≡ part_size c.args.self.now = omega (arith, c.part_length-length.ensures.0) in
     let long : 1 + part_size c.args.self.now * c.loop-t.t + part_size c.args.self.now ≤ length c.loop-t.tables =
     omega (arith, c.requires.long, within (part_size c.args.self.now) c.loop-t.t t, c.loop-t.auto.tables) in
