@@ -30,6 +30,8 @@ pub const GROUPS: usize = 64;
 // A row that holds any table of so many groups: four levels, the count, and six numbers a group.
 pub const ROW: usize = 389;
 
+const _: () = prove!(ROW == 5 + 6 * GROUPS);
+
 // What was told, and whether the file ended right behind a deed.
 #[derive(Drop)]
 pub struct Day {

@@ -1,15 +1,17 @@
 //! Does the deeds of a file, or of standard input, in order from an empty warehouse, and prints what is told of them.
 #![tactic(auto)]
 
+ghost use Rattle.std.specs.Prelude.{◌≡◌, ◌+◌, ◌*◌, true, false, IfOk, string_bytes};
+ghost use Rattle.journal.specs.Days.{day_text};
+ghost use Rattle.journal.specs.Room.{replay_limits, replay_row};
+ghost use Rattle.tables.specs.Rooms;
+
 use anyhow::anyhow;
+use formats::NoMemory;
+use journal::Day;
 use std::io::{Read, Write};
 use std::{env, fs};
 use tables::Room;
-
-// Room for so many facts, and so many groups a table.
-const FACTS: usize = 256;
-
-const GROUPS: usize = 64;
 
 // Before the file's name, this word asks for the standard room.
 const STANDARD: &str = "--standard";
@@ -32,9 +34,21 @@ fn input(rt: &HostRuntime, path: Option<String>) -> anyhow::Result<Vec<u8>> {
     Ok(bytes)
 }
 
+// The day of a file, in the small room or in the standard one.
+fn day_of(rt: &HostRuntime, standard: bool, bytes: &[u8]) -> Result<Day, NoMemory>
+    ensures small { standard ≡ false → IfOk result (λ d. string_bytes d.text ≡ day_text replay_limits replay_row bytes.now) }
+    ensures large { standard ≡ true → IfOk result (λ d. string_bytes d.text ≡ day_text Rooms.standard (5 + 6 * 4096) bytes.now) }
+{
+    if standard {
+        journal::replay_in(rt.alloc(), Room::standard(), bytes)
+    } else {
+        journal::replay(rt.alloc(), bytes)
+    }
+}
+
 // Prints the day of a file.
-fn tell(rt: &HostRuntime, room: Room, bytes: &[u8]) -> anyhow::Result<()> {
-    match journal::replay_in(rt.alloc(), room, bytes) {
+fn tell(rt: &HostRuntime, standard: bool, bytes: &[u8]) -> anyhow::Result<()> {
+    match day_of(rt, standard, bytes) {
         Ok(day) => {
             rt.stdout().write_all(day.text.as_bytes())?;
             if day.whole {
@@ -50,13 +64,12 @@ fn tell(rt: &HostRuntime, room: Room, bytes: &[u8]) -> anyhow::Result<()> {
 fn run(rt: &HostRuntime) -> anyhow::Result<()> {
     let mut words = env::args(rt)?;
     let mut path = words.nth(1);
-    let mut room = Room::new(FACTS, GROUPS).unwrap();
-    if is_standard(&path) {
-        room = Room::standard();
+    let standard = is_standard(&path);
+    if standard {
         path = words.next();
     }
     let bytes = input(rt, path)?;
-    tell(rt, room, bytes.as_slice())
+    tell(rt, standard, bytes.as_slice())
 }
 
 fn main(rt: HostRuntime) -> anyhow::Result<()> {
