@@ -11,3 +11,4 @@ pub use dimension::Dimension;
 pub use dimensions::{Ascent, Dimensions};
 pub use fact::Fact;
 pub use levels::Levels;
+pub use replies::{Refusal, Reply};

@@ -7,3 +7,4 @@ pub mod theorems;
 
 pub use day::{Day, replay, replay_in};
 pub use deed::{Kind, Step};
+pub use formats::{NoMemory, bytes, text};

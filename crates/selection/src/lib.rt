@@ -5,4 +5,6 @@ pub mod entry;
 pub mod fault;
 pub mod rolling;
 
+pub use benefit::theorems;
 pub use fault::Fault;
+pub use greedy::{Turn, by_sizes};

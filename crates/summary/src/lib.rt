@@ -6,3 +6,4 @@ pub mod shape;
 
 pub use group::Group;
 pub use shape::Shape;
+pub use totals::theorems;

@@ -4,3 +4,5 @@
 pub mod house;
 
 pub use house::Warehouse;
+pub use model::theorems;
+pub use storage::Layout;
