@@ -1,5 +1,5 @@
 -- The choice in memory: sizes as a list, what a question's cost falls by, and the turns. Assumes nothing: these are definitions.
-use Rattle.std.specs.Prelude.{◌≡◌, ℕ, suc, ◌-◌, ◌^◌, ◌<◌, ◌≤◌, cond, List, ◌∷◌, length, get_or, slice_index, slice_index_or}
+use Rattle.std.specs.Prelude.{◌≡◌, ℕ, suc, ◌-◌, ◌^◌, ◌<◌, ◌≤◌, cond, List, ◌∷◌, length, slice_index, slice_index_or}
 use Rattle.hierarchy.specs.Dimensions.{Dims, Row}
 use Rattle.hierarchy.specs.Levels.{no_coarser, total_levels, nth_levels}
 use Rattle.hierarchy.specs.Views.{levels_of}
@@ -15,8 +15,8 @@ SizesAre ss sz zs = (i : ℕ) → i < total_levels ss → sz (nth_levels ss i) �
 abbrev pub TurnsAre : Dims → (Row → ℕ) → List Turn → Type 0
 TurnsAre ss sz ts =
     (i : ℕ) (d : Turn) → i < length ts
-    → (chosen ss sz (suc i) ≡ levels_of (length ss) (get_or ts i d).levels ∷ chosen ss sz i)
-    × ((get_or ts i d).saves ≡ saved ss sz (chosen ss sz (suc i)))
+    → (chosen ss sz (suc i) ≡ levels_of (length ss) (slice_index_or ts i d).levels ∷ chosen ss sz i)
+    × ((slice_index_or ts i d).saves ≡ saved ss sz (chosen ss sz (suc i)))
 
 -- all levels in their order, as the code has them
 pub record AllLevels (ss : Dims) (ls : List Levels) : Type 0 where

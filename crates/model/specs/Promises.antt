@@ -1,6 +1,6 @@
 -- What a warehouse promises, for any dimensions, any room, and every list of deeds from an empty warehouse. Each is a statement; a
 -- function's contract asks for its proof. Assumes nothing.
-use Rattle.std.specs.Prelude.{◌≡◌, ℕ, ◌+◌, ◌^◌, ◌<◌, ◌≤◌, true, cond, List, [], ◌∷◌, map, length, get_or, Some, None, slice_index, slice_index_or}
+use Rattle.std.specs.Prelude.{◌≡◌, ℕ, ◌+◌, ◌^◌, ◌<◌, ◌≤◌, true, cond, List, [], ◌∷◌, map, length, Some, None, slice_index, slice_index_or}
 use Rattle.std.specs.List.{AllByRecursion}
 use Rattle.hierarchy.specs.Dimensions.{Dims, Row}
 use Rattle.hierarchy.specs.Levels.{are_levels, no_coarser, finest}
@@ -18,9 +18,9 @@ reached ss lim ds = end ss lim (empty ss) ds
 -- every kept table is the table of the facts at its levels, and the finest is first
 pub record Sound (ss : Dims) (h : House) : Type 0 where
   pub some : 0 < length h.kept
-  pub first : (d : Kept) → (get_or h.kept 0 d).levels ≡ finest ss
-  pub there : (i : ℕ) (d : Kept) → i < length h.kept → are_levels ss (get_or h.kept i d).levels ≡ true
-  pub right : (i : ℕ) (d : Kept) → i < length h.kept → (get_or h.kept i d).cells ≡ table ss (get_or h.kept i d).levels h.facts
+  pub first : (d : Kept) → (slice_index_or h.kept 0 d).levels ≡ finest ss
+  pub there : (i : ℕ) (d : Kept) → i < length h.kept → are_levels ss (slice_index_or h.kept i d).levels ≡ true
+  pub right : (i : ℕ) (d : Kept) → i < length h.kept → (slice_index_or h.kept i d).cells ≡ table ss (slice_index_or h.kept i d).levels h.facts
 
 abbrev pub AlwaysSound : Type 0
 AlwaysSound = (ss : Dims) (lim : Limits) (ds : List Deed) → Sound ss (reached ss lim ds)
@@ -53,10 +53,10 @@ TotalsRight =
     → told ss lim (reached ss lim ds) (ask xs n) ≡ shown t work
     → let h = reached ss lim ds in
     (t ≡ table ss (levels_in ss xs) h.facts)
-    × ((i : ℕ) (d : Kept) → i < length h.kept → no_coarser ss (get_or h.kept i d).levels (levels_in ss xs) ≡ true
-    → work ≤ size ss h.facts (get_or h.kept i d).levels)
-    × ((d : Kept) → (i : ℕ) × (i < length h.kept) × (no_coarser ss (get_or h.kept i d).levels (levels_in ss xs) ≡ true)
-    × (work ≡ size ss h.facts (get_or h.kept i d).levels))
+    × ((i : ℕ) (d : Kept) → i < length h.kept → no_coarser ss (slice_index_or h.kept i d).levels (levels_in ss xs) ≡ true
+    → work ≤ size ss h.facts (slice_index_or h.kept i d).levels)
+    × ((d : Kept) → (i : ℕ) × (i < length h.kept) × (no_coarser ss (slice_index_or h.kept i d).levels (levels_in ss xs) ≡ true)
+    × (work ≡ size ss h.facts (slice_index_or h.kept i d).levels))
     × (work ≡ cost ss (size ss h.facts) (levels_in ss xs) (map (λ k. k.levels) h.kept))
 
 -- levels that are there are answered, if the lent row has room for the finest table's groups
@@ -149,7 +149,7 @@ WithinLimits =
     (ss : Dims) (lim : Limits) (ds : List Deed) →
     let h = reached ss lim ds in
     (length h.facts ≤ lim.facts) × (length h.kept ≤ 16)
-    × ((i : ℕ) (d : Kept) → i < length h.kept → length (get_or h.kept i d).cells ≤ lim.groups)
+    × ((i : ℕ) (d : Kept) → i < length h.kept → length (slice_index_or h.kept i d).cells ≤ lim.groups)
 
 -- one theorem over every list of deeds
 pub record WarehouseRight : Type 0 where

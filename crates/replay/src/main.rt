@@ -1,10 +1,10 @@
 //! Does the deeds of a file, or of standard input, in order from an empty warehouse, and prints what is told of them.
 #![tactic(auto)]
 
-ghost use Rattle.std.specs.Prelude.{◌≡◌, ◌+◌, ◌*◌, true, false, IfOk, string_bytes};
-ghost use Rattle.journal.specs.Days.{day_text};
-ghost use Rattle.journal.specs.Room.{replay_limits, replay_row};
-ghost use Rattle.tables.specs.Rooms;
+ghost use Rattle.std.specs.Prelude.{◌≡◌, IfOk, string_bytes};
+ghost use Rattle.journal.specs.Answers.{AnswersRight};
+ghost use Rattle.journal.specs.Days.{day_text, day_whole};
+ghost use Rattle.replay.specs.Program.{program_limits, program_row};
 
 use anyhow::anyhow;
 use formats::NoMemory;
@@ -15,14 +15,6 @@ use tables::Room;
 
 // Before the file's name, this word asks for the standard room.
 const STANDARD: &str = "--standard";
-
-// Whether a word of the command line asks for the standard room.
-fn is_standard(word: &Option<String>) -> bool {
-    match word {
-        Some(word) => word.as_str() == STANDARD,
-        None => false,
-    }
-}
 
 // The file that is named, or standard input.
 fn input(rt: &HostRuntime, path: Option<String>) -> anyhow::Result<Vec<u8>> {
@@ -36,8 +28,8 @@ fn input(rt: &HostRuntime, path: Option<String>) -> anyhow::Result<Vec<u8>> {
 
 // The day of a file, in the small room or in the standard one.
 fn day_of(rt: &HostRuntime, standard: bool, bytes: &[u8]) -> Result<Day, NoMemory>
-    ensures small { standard ≡ false → IfOk result (λ d. string_bytes d.text ≡ day_text replay_limits replay_row bytes.now) }
-    ensures large { standard ≡ true → IfOk result (λ d. string_bytes d.text ≡ day_text Rooms.standard (5 + 6 * 4096) bytes.now) }
+    ensures text { IfOk result (λ d. (string_bytes d.text ≡ day_text (program_limits standard) (program_row standard) bytes.now) × (d.whole ≡ day_whole bytes.now)) }
+    ensures answers { IfOk result (λ d. AnswersRight (program_limits standard) (program_row standard) bytes.now (string_bytes d.text)) }
 {
     if standard {
         journal::replay_in(rt.alloc(), Room::standard(), bytes)
@@ -64,7 +56,7 @@ fn tell(rt: &HostRuntime, standard: bool, bytes: &[u8]) -> anyhow::Result<()> {
 fn run(rt: &HostRuntime) -> anyhow::Result<()> {
     let mut words = env::args(rt)?;
     let mut path = words.nth(1);
-    let standard = is_standard(&path);
+    let standard = path.as_deref() == Some(STANDARD);
     if standard {
         path = words.next();
     }

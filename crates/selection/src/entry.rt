@@ -1,5 +1,5 @@
 // The choice over dimensions and facts as they come.
-ghost use Rattle.std.specs.Prelude.{◌≡◌, ℕ, ◌+◌, ◌*◌, ◌/◌, ◌%◌, ◌^◌, ◌<◌, ◌≤◌, List, length, take, drop, IfOk, if◌then◌else◌, Some, None, Ok, Err, vec_len, nat_eq};
+ghost use Rattle.std.specs.Prelude.{◌≡◌, ℕ, ◌+◌, ◌*◌, ◌/◌, ◌%◌, ◌^◌, ◌<◌, ◌≤◌, List, length, take, drop, IfOk, if◌then◌else◌, Some, None, Ok, Err, vec_len, ◌==◌};
 ghost use Rattle.hierarchy.specs.Facts.{Entry};
 ghost use Rattle.hierarchy.specs.Levels.{finest};
 ghost use Rattle.hierarchy.specs.Reading.{dims_in};
@@ -32,7 +32,7 @@ pub const TABLES: u64 = 15;
 // How many facts of a length lie in so many numbers; the last may be cut short.
 fn count_facts(numbers: usize, long: usize) -> usize
     requires { 1 < long }
-    ensures { (result ≡ numbers / long + (if nat_eq (numbers % long) 0 then 0 else 1)) × (((i : ℕ) → i < result → long * i ≤ numbers)) }
+    ensures { (result ≡ numbers / long + (if numbers % long == 0 then 0 else 1)) × (((i : ℕ) → i < result → long * i ≤ numbers)) }
 {
     if numbers % long == 0 {
         numbers / long

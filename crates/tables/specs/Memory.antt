@@ -1,6 +1,6 @@
 -- How the kept tables of a warehouse lie in memory: how many there are, and then parts, each with the room of one whole table.
 -- Assumes nothing: these are definitions.
-use Rattle.std.specs.Prelude.{◌≡◌, ℕ, ◌+◌, ◌*◌, ◌^◌, ◌<◌, ◌≤◌, List, length, take, drop, slice_index, slice_index_or}
+use Rattle.std.specs.Prelude.{◌≡◌, ℕ, ◌+◌, ◌*◌, ◌^◌, ◌<◌, ◌≤◌, List, length, take, drop, slice_index}
 use Rattle.hierarchy.specs.Dimensions.{Dims}
 use Rattle.hierarchy.specs.Facts.{Entry}
 use Rattle.hierarchy.specs.Parts.{parts}
@@ -51,6 +51,6 @@ pub record WithoutFact (l : TableLayout) (e : Entry) (xs ys : List ℕ) : Type 0
 
 -- the parts below t have become what R says of them, and the others are as they were
 pub record Each (s : ℕ) (R : List ℕ → List ℕ → Type 0) (t : ℕ) (xs ys : List ℕ) : Type 0 where
-  pub head : slice_index_or ys 0 0 ≡ slice_index xs 0
+  pub head : slice_index ys 0 ≡ slice_index xs 0
   pub made : (j : ℕ) → j < t → R (part s j xs) (part s j ys)
   pub rest : (j : ℕ) → t ≤ j → part s j ys ≡ part s j xs

@@ -1,5 +1,5 @@
 -- The kept tables in memory, as deeds on them find them and leave them. Assumes nothing: these are definitions.
-use Rattle.std.specs.Prelude.{◌≡◌, ℕ, ◌+◌, ◌*◌, ◌^◌, ◌<◌, ◌≤◌, List, length, slice_index, slice_index_or}
+use Rattle.std.specs.Prelude.{◌≡◌, ℕ, ◌+◌, ◌*◌, ◌^◌, ◌<◌, ◌≤◌, List, length, slice_index}
 use Rattle.totals.specs.Counts.{total}
 use Rattle.summary.specs.Memory as summary
 use Rattle.model.specs.House.{Kept}
@@ -17,7 +17,7 @@ kept_table l i tables = kept_in (wide l) (part (part_size l) i tables)
 pub record Ready (l : TableLayout) (tables : List ℕ) : Type 0 where
   pub long : length tables ≡ 1 + part_size l * 16
   pub some : 0 < slice_index tables 0
-  pub few : slice_index_or tables 0 0 ≤ 16
+  pub few : slice_index tables 0 ≤ 16
   pub sound : (i : ℕ) → i < slice_index tables 0 → summary.Sound (wide l) (part (part_size l) i tables)
   pub fits : (i : ℕ) → i < slice_index tables 0
       → ((total (kept_table l i tables).cells).count < 2 ^ 64) × ((total (kept_table l i tables).cells).sum < 2 ^ 64)
