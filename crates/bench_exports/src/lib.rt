@@ -1,11 +1,11 @@
-//! What the benchmark calls: tables of two dimensions, by the calling convention of C. The caller sees to it that a row holds a table.
+//! What the benchmark calls: tables of two dimensions, by the calling convention of C, which no `Result` crosses: so a number says
+//! whether it was done. The caller sees to it that a row holds a table.
 #![tactic(auto)]
 
 ghost use Rattle.std.specs.Prelude.{[], ◌∷◌, ◌+◌, ◌^◌, ◌<◌};
 ghost use Rattle.totals.specs.Counts.{at};
 ghost use Rattle.summary.specs.Memory.{table_in, Sound};
 
-use replies::Reply;
 use rollup::roll;
 use summary::{Group, Shape};
 
@@ -19,16 +19,7 @@ pub extern "C" fn bench_put(row: &mut [u64], x: u64, y: u64, amount: u64) -> u64
     let Some(shape) = Shape::new(2) else {
         return 0;
     };
-    let place = [x, y, 0, 0];
-    let count = 1;
-    u64::from(shape.put(
-        row,
-        Group {
-            place,
-            count,
-            sum: amount,
-        },
-    ))
+    u64::from(shape.put(row, Group::one([x, y, 0, 0], amount)))
 }
 
 // A fact goes from a table: 1, or 0 if there is no group.
@@ -45,9 +36,5 @@ pub extern "C" fn bench_take(row: &mut [u64], x: u64, y: u64, amount: u64) -> u6
 // A table is rolled up: 1, or 0 if that is refused.
 #[unsafe(no_mangle)]
 pub extern "C" fn bench_roll(sides: &[u64], from: &[u64], to: &[u64], out: &mut [u64]) -> u64 {
-    match roll(sides, from, to, out) {
-        Reply::Shown(_) => 1,
-        Reply::Done => 0,
-        Reply::Refused(_) => 0,
-    }
+    u64::from(roll(sides, from, to, out).is_ok())
 }

@@ -12,64 +12,46 @@ ghost use Rattle.benefit.specs.Promises.{
 ghost use Rattle.benefit.specs.Examples.{Worked};
 
 /// A table more never saves less, and the more there are, the less one more saves.
-pub fn less_and_less() -> u8
+pub fn less_and_less()
     ensures { LessAndLess }
-{
-    0
-}
+{}
 
 /// The n chosen save at least the share 1 - (1 - 1/n)^n of what any other n save.
-pub fn chosen_well() -> u8
+pub fn chosen_well()
     ensures { ChosenWell }
-{
-    0
-}
+{}
 
 /// And i chosen against any number of others.
-pub fn chosen_well_against() -> u8
+pub fn chosen_well_against()
     ensures { ChosenWellAgainst }
-{
-    0
-}
+{}
 
 /// Two chosen save three quarters of what any other two save.
-pub fn two_save_three_quarters() -> u8
+pub fn two_save_three_quarters()
     ensures { TwoSaveThreeQuarters }
-{
-    0
-}
+{}
 
 /// Any n chosen save 63 in a hundred of what any other n save.
-pub fn sixty_three_in_a_hundred() -> u8
+pub fn sixty_three_in_a_hundred()
     ensures { SixtyThreeInAHundred }
-{
-    0
-}
+{}
 
 /// What is chosen is there, and there are n.
-pub fn chosen_there() -> u8
+pub fn chosen_there()
     ensures { ChosenThere }
-{
-    0
-}
+{}
 
 /// At each turn no levels save more together with those taken before.
-pub fn best_saves_most() -> u8
+pub fn best_saves_most()
     ensures { BestSavesMost }
-{
-    0
-}
+{}
 
 /// The finest table, kept again, saves nothing.
-pub fn finest_saves_nothing() -> u8
+pub fn finest_saves_nothing()
     ensures { FinestSavesNothing }
-{
-    0
-}
+{}
 
 /// The worked example comes out as said.
-pub fn worked_examples() -> u8
+pub fn worked_examples()
     ensures { Worked }
-{
-    0
-}
+{}

@@ -1,8 +1,7 @@
 -- Text that grows by one piece a turn. Assumes nothing.
-use Rattle.std.proofs.Common.{◌≡◌, ℕ, ◌+◌, ◌<◌, ◌≤◌, List, [], ◌∷◌, ◌++◌, length, get_or, take, drop, decimal, sym, refl, ap, ◌∙◌, arith}
+use Rattle.std.proofs.Common.{◌≡◌, ℕ, ◌+◌, ◌<◌, ◌≤◌, List, ◌++◌, length, get_or, take, sym, ap, ◌∙◌}
 use Rattle.std.specs.List.{flat_map}
-use Rattle.std.proofs.lemmas.List.{append_assoc, flat_map_more, take_more, take_all}
-use Rattle.formats.specs.Text.{spaced, place_text}
+use Rattle.std.proofs.lemmas.List.{flat_map_more, take_more, take_all}
 
 module _ {X : Type 0} (f : X → List ℕ) (start : List ℕ) (xs : List X) where
   pub piece_more : (i : ℕ) (d : X) (before after : List ℕ) → i < length xs → before ≡ start ++ flat_map f (take i xs) → after ≡ before ++ f (get_or xs i d)
@@ -13,12 +12,3 @@ module _ {X : Type 0} (f : X → List ℕ) (start : List ℕ) (xs : List X) wher
 
   pub piece_all : (i : ℕ) (before : List ℕ) → length xs ≤ i → before ≡ start ++ flat_map f (take i xs) → before ≡ start ++ flat_map f xs
   piece_all i before h b = b ∙ ap (λ ys. start ++ flat_map f ys) (take_all i xs h)
-
--- two pieces
-pub pieces_two : (start a b before after : List ℕ) → before ≡ start ++ a → after ≡ before ++ b → after ≡ start ++ (a ++ b)
-pieces_two start a b before after p q = q ∙ (ap (λ s. s ++ b) p ∙ append_assoc start a b)
-
--- the first number, and those behind it
-pub place_text_is : (xs : List ℕ) → 0 < length xs → decimal (get_or xs 0 0) ++ flat_map spaced (drop 1 xs) ≡ place_text xs
-place_text_is [] h = absurd (omega arith)
-place_text_is (x ∷ xs) h = refl

@@ -9,7 +9,7 @@ fn number_at(bytes: &[u8], at: usize) -> u64
     requires { at + 4 ≤ length bytes.now }
     ensures { result ≡ number (drop at bytes.now) }
 {
-    u32::from_le_bytes([bytes[at], bytes[at + 1], bytes[at + 2], bytes[at + 3]]) as u64
+    u64::from(u32::from_le_bytes(*bytes[at..].first_chunk::<4>().unwrap()))
 }
 
 // Reads as many numbers as there is room for.
@@ -17,18 +17,26 @@ pub fn read_numbers(bytes: &[u8], row: &mut [u64])
     requires { 4 * length row.old ≤ length bytes.now }
     ensures { row.new ≡ numbers (length row.old) bytes.now }
 {
-    for i in 0..row.len() {
-        row[i] = number_at(bytes, 4 * i);
+    for (i, number) in row.iter_mut().enumerate() {
+        *number = number_at(bytes, 4 * i);
     }
+}
+
+// The first so many numbers.
+fn first_numbers(heap: Global, bytes: &[u8], count: usize) -> Result<Vec<u64>, AllocError>
+    requires { 4 * count ≤ length bytes.now }
+    ensures { IfOk result (λ v. v.items ≡ numbers count bytes.now) }
+{
+    let mut row = vec![in heap; 0; count]?;
+    read_numbers(bytes, &mut row);
+    Ok(row)
 }
 
 // All whole numbers of bytes.
 pub fn read_row(heap: Global, bytes: &[u8]) -> Result<Vec<u64>, AllocError>
     ensures { IfOk result (λ v. v.items ≡ numbers (length bytes.now / 4) bytes.now) }
 {
-    let mut row = vec![in heap; 0; bytes.len() / 4]?;
-    read_numbers(bytes, &mut row[..]);
-    Ok(row)
+    first_numbers(heap, bytes, bytes.len() / 4)
 }
 
 // How many numbers of a file are its dimensions.
@@ -48,7 +56,5 @@ pub fn count_sides(bytes: &[u8]) -> usize
 pub fn read_sides(heap: Global, bytes: &[u8]) -> Result<Vec<u64>, AllocError>
     ensures { IfOk result (λ v. v.items ≡ sides_of bytes.now) }
 {
-    let mut row = vec![in heap; 0; count_sides(bytes)]?;
-    read_numbers(bytes, &mut row[..]);
-    Ok(row)
+    first_numbers(heap, bytes, count_sides(bytes))
 }

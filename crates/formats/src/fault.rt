@@ -1,5 +1,6 @@
 // Want of memory.
 use std::alloc::AllocError;
+use std::error::Error;
 use std::fmt;
 
 // There was no memory for the warehouse or for the text.
@@ -23,3 +24,5 @@ impl fmt::Display for NoMemory {
         write!(f, "out of memory")
     }
 }
+
+impl Error for NoMemory {}

@@ -1,5 +1,5 @@
 // Answers as text.
-ghost use Rattle.std.specs.Prelude.{◌≡◌, ◌+◌, ◌<◌, ◌≤◌, ◌++◌, length, string_bytes, OnOk};
+ghost use Rattle.std.specs.Prelude.{◌≡◌, ◌+◌, ◌++◌, string_bytes, OnOk};
 ghost use Rattle.summary.specs.Memory.{cell_of, table_in, Whole};
 ghost use Rattle.formats.specs.Text.{place_text, line_text, table_text, reply_line};
 
@@ -7,31 +7,26 @@ use replies::Reply;
 use std::fmt;
 use summary::{Group, Shape};
 
-// Numbers with a space between.
+// Numbers with a space between. A type around the slice, only for a Display, would be no plainer.
 pub fn write_numbers(text: &mut String, row: &[u64]) -> fmt::Result
     ensures { OnOk result (string_bytes text.new ≡ string_bytes text.old ++ place_text row.now) }
 {
-    if row.is_empty() {
+    let Some((first, rest)) = row.split_first() else {
         return Ok(());
-    }
-    let first = row[0];
+    };
     write!(text, "{first}")?;
-    let rest = &row[1..];
     for number in rest {
         write!(text, " {number}")?;
     }
     Ok(())
 }
 
-// A group as a line: its place, how many facts, their sum.
-pub fn write_group(text: &mut String, width: usize, group: Group) -> fmt::Result
-    requires { (0 < width) × (width ≤ 4) }
-    ensures { OnOk result (string_bytes text.new ≡ string_bytes text.old ++ line_text (cell_of width group)) }
+// A group as a line: its place, how many facts, their sum. It does not know how many dimensions there are, so it has no Display.
+pub fn write_group(text: &mut String, shape: Shape, group: Group) -> fmt::Result
+    ensures { OnOk result (string_bytes text.new ≡ string_bytes text.old ++ line_text (cell_of shape.width group)) }
 {
-    let place = group.place;
-    let count = group.count;
-    let sum = group.sum;
-    write_numbers(text, &place[0..width])?;
+    let Group { place, count, sum } = group;
+    write_numbers(text, &place[..shape.width()])?;
     writeln!(text, ": {count} {sum}")?;
     Ok(())
 }
@@ -41,9 +36,8 @@ pub fn write_table(text: &mut String, shape: Shape, row: &[u64]) -> fmt::Result
     requires { Whole shape.width row.now }
     ensures { OnOk result (string_bytes text.new ≡ string_bytes text.old ++ table_text (table_in shape.width row.now)) }
 {
-    let width = shape.width();
-    for i in 0..shape.count(row) {
-        write_group(text, width, shape.group(row, i))?;
+    for part in shape.groups(row).chunks_exact(shape.stride()) {
+        write_group(text, shape, shape.read(part))?;
     }
     Ok(())
 }

@@ -1,3 +1,4 @@
 pub mod Gains
 pub mod Listed
+pub mod Lowering
 pub mod Turning

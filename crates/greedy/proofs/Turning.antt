@@ -1,12 +1,14 @@
 -- How the choice stands between two turns, within one, and within one row of levels. Assumes nothing.
 use Rattle.std.proofs.Common.{◌≡◌, ℕ, zero, suc, ◌+◌, ◌-◌, ◌*◌, ◌^◌, ◌<◌, ◌≤◌, List, [], ◌∷◌, ◌++◌, length, get_or, drop, replicate, sum, sym, refl, ap, ◌∙◌, suc-mul, mul_comm, mul-le-mul_left, zero-mul, add-one, arith, below_more}
-use Rattle.std.proofs.lemmas.List.{length_push, get_or_push, get_or_append_left, length-replicate, get_or-replicate}
+use Rattle.std.proofs.lemmas.List.{length-map, get_or-map, length_push, get_or_push, get_or_append_left, length-replicate, get_or-replicate}
 use Rattle.std.proofs.lemmas.List.Sums.{sum_by-cons, sum_by-drop_more}
 use Rattle.hierarchy.specs.Dimensions.{Dims, Row}
 use Rattle.hierarchy.specs.Levels.{finest, total_levels, nth_levels}
 use Rattle.hierarchy.specs.Views.{levels_of}
 use Rattle.hierarchy.specs.declared.levels.Levels.{Levels}
 use Rattle.benefit.specs.Benefit.{saved, best, chosen}
+use Rattle.greedy.specs.Candidates.{all_levels_of, sizes_of, costs_of}
+use Rattle.greedy.specs.declared.by_sizes.Candidate.{Candidate}
 use Rattle.greedy.specs.Turns.{SizesAre, TurnsAre, AllLevels, fall, Lowered, Counted}
 use Rattle.greedy.specs.declared.turn.Turn.{Turn}
 use Rattle.greedy.proofs.Gains.{gain_to, gain, best_to, CostsAre, gain_none, gain_more, gain_bound, gain_here, gain_large, best_keeps, best_takes, sum_lowered, costs_none, costs_lowered, saved_is, best_none, best_below, best_is, first_levels}
@@ -151,3 +153,72 @@ leading_below ss zs cs n k b most lead p h = rw lead.0 (best_below ss zs cs n k 
 
 pub leading_fits : (ss : Dims) (zs cs : List ℕ) (k b most : ℕ) → Leading ss zs cs k b most → most ≤ sum cs
 leading_fits ss zs cs k b most lead = omega (arith, lead.1, gain_here ss b (get_or zs b 0) cs (length cs) (omega arith))
+
+-- ---- by candidates: what is carried from turn to turn
+pub record Between (ss : Dims) (xs : List Candidate) (zs : List ℕ) (saves : ℕ) (ts : List Turn) (t : ℕ) : Type 0 where
+  pub all : AllLevels ss (all_levels_of xs)
+  pub sizes : sizes_of xs ≡ zs
+  pub counted : Counted (length (all_levels_of xs)) (sizes_of xs)
+  pub standing : Standing ss (length (all_levels_of xs)) (sizes_of xs) (costs_of xs) saves ts t
+  pub many : length (all_levels_of xs) ≡ length xs
+  pub long : length (costs_of xs) ≡ length xs
+
+pub between_none : (ss : Dims) (xs : List Candidate) → AllLevels ss (all_levels_of xs) → Counted (length xs) (sizes_of xs)
+    → costs_of xs ≡ replicate (length xs) (get_or (sizes_of xs) 0 0) → Between ss xs (sizes_of xs) 0 [] 0
+between_none ss xs a c start =
+    let many : length (all_levels_of xs) ≡ length xs = length-map xs (λ (x : Candidate). x.levels) in
+    record {
+      all = a;
+      sizes = refl;
+      counted = rw many c;
+      standing = rw (start, ← many) (standing_none ss (all_levels_of xs) (sizes_of xs) a);
+      many = many;
+      long = length-map xs (λ (x : Candidate). x.cost);
+    }
+
+pub between_more : (ss : Dims) (xs ys : List Candidate) (zs : List ℕ) (saves k b most : ℕ) (ts us : List Turn) (x : Turn) (t : ℕ) (d : Candidate)
+    → Between ss xs zs saves ts t → Leading ss (sizes_of xs) (costs_of xs) k b most → k ≡ length xs
+    → all_levels_of ys ≡ all_levels_of xs → sizes_of ys ≡ sizes_of xs → Lowered ss b (get_or (sizes_of xs) b 0) (costs_of xs) (costs_of ys)
+    → us ≡ ts ++ x ∷ [] → x.levels ≡ (get_or ys b d).levels → x.saves ≡ saves + most → Between ss ys zs (saves + most) us (t + 1)
+between_more ss xs ys zs saves k b most ts us x t d s lead whole same-levels same-sizes low p taken saved =
+    let many : length (all_levels_of ys) ≡ length ys = length-map ys (λ (x : Candidate). x.levels) in
+    let all : AllLevels ss (all_levels_of ys) = rw same-levels s.all in
+    let below : b < length (all_levels_of xs) = leading_below ss (sizes_of xs) (costs_of xs) (length (all_levels_of xs)) k b most lead s.all.some (omega (arith, s.many)) in
+    let below' : b < length ys = omega (arith, ap length same-levels) in
+    let e : levels_of (length ss) x.levels ≡ nth_levels ss b =
+    ap (levels_of (length ss)) (taken ∙ sym (get_or-map (λ (x : Candidate). x.levels) ys b d d.levels below')) ∙ all.each b d.levels (omega arith) in
+    record {
+      all = all;
+      sizes = same-sizes ∙ s.sizes;
+      counted = rw (same-levels, same-sizes) s.counted;
+      standing = rw (same-levels, same-sizes)
+          (standing_more ss (all_levels_of xs) (sizes_of xs) (costs_of xs) (costs_of ys) saves k b most ts us x t s.all s.standing lead (omega (arith, s.many)) low p e saved);
+      many = many;
+      long = length-map ys (λ (x : Candidate). x.cost);
+    }
+
+pub between_bounded : (ss : Dims) (xs : List Candidate) (zs : List ℕ) (saves : ℕ) (ts : List Turn) (t : ℕ) → Between ss xs zs saves ts t
+    → saves + sum (costs_of xs) < 2 ^ 44
+between_bounded ss xs zs saves ts t s = bounded ss (all_levels_of xs) (sizes_of xs) (costs_of xs) saves ts t s.all s.counted s.standing
+
+pub asked_pays : (ss : Dims) (xs : List Candidate) (i q gained left : ℕ) (e : Candidate) → q < length xs → Asking ss (sizes_of xs) (costs_of xs) i q gained left
+    → (get_or xs q e).cost ≤ left
+asked_pays ss xs i q gained left e h ask =
+    rw (← get_or-map (λ (x : Candidate). x.cost) xs q e 0 h)
+    (asked_left ss (sizes_of xs) (costs_of xs) i q gained left ask (omega (arith, length-map xs (λ (x : Candidate). x.cost))))
+
+pub asked_next : (ss : Dims) (xs : List Candidate) (i q gained left r : ℕ) (d e : Candidate) → AllLevels ss (all_levels_of xs) → i < length xs → q < length xs
+    → Asking ss (sizes_of xs) (costs_of xs) i q gained left
+    → r ≡ fall ss (levels_of (length ss) (get_or xs i d).levels) (get_or xs i d).size (levels_of (length ss) (get_or xs q e).levels) (get_or xs q e).cost
+    → Asking ss (sizes_of xs) (costs_of xs) i (q + 1) (gained + r) (left - (get_or xs q e).cost)
+asked_next ss xs i q gained left r d e a hi hq ask f =
+    let many : length (all_levels_of xs) ≡ length xs = length-map xs (λ (x : Candidate). x.levels) in
+    let long : length (costs_of xs) ≡ length xs = length-map xs (λ (x : Candidate). x.cost) in
+    let taken : get_or (all_levels_of xs) i d.levels ≡ (get_or xs i d).levels = get_or-map (λ (x : Candidate). x.levels) xs i d d.levels hi in
+    let size : get_or (sizes_of xs) i 0 ≡ (get_or xs i d).size = get_or-map (λ (x : Candidate). x.size) xs i d 0 hi in
+    let asked : get_or (all_levels_of xs) q e.levels ≡ (get_or xs q e).levels = get_or-map (λ (x : Candidate). x.levels) xs q e e.levels hq in
+    let cost : get_or (costs_of xs) q 0 ≡ (get_or xs q e).cost = get_or-map (λ (x : Candidate). x.cost) xs q e 0 hq in
+    let f' : r ≡ fall ss (levels_of (length ss) (get_or (all_levels_of xs) i d.levels)) (get_or (sizes_of xs) i 0)
+    (levels_of (length ss) (get_or (all_levels_of xs) q e.levels)) (get_or (costs_of xs) q 0) =
+    rw (taken, size, asked, cost) f in
+    rw (← cost) (asked_more ss (all_levels_of xs) (sizes_of xs) (costs_of xs) i q gained left r d.levels e.levels a (omega arith) (omega arith) (omega arith) ask f')

@@ -1,9 +1,19 @@
 -- Products of factors: one factor more, a part of them, and when the product of all is small. Assumes nothing.
-use Rattle.std.proofs.Common.{◌≡◌, ℕ, zero, suc, ◌+◌, ◌*◌, ◌^◌, ◌<◌, ◌≤◌, max, true, false, ltb, ◌⊎◌, List, [], ◌∷◌, ◌++◌, length, get_or, take, drop, sym, refl, ap, ◌∙◌, inl, inr, ⊎_elim, one-mul, mul-zero, zero-mul, mul-one, arith}
-use Rattle.std.proofs.lemmas.List.{take-append-drop, drop_more, drop_all, length-take, get_or-take}
+use Rattle.std.proofs.Common.{◌≡◌, ℕ, zero, suc, ◌+◌, ◌-◌, ◌*◌, ◌^◌, ◌<◌, ◌≤◌, min, true, false, ltb, ◌⊎◌, Option, List, [], ◌∷◌, ◌++◌, map, length, get_or, take, drop, sym, refl, ap, subst, ◌∙◌, inl, inr, ⊎_elim, one-mul, mul-zero, zero-mul, mul-one, mul_assoc, arith}
+use Rattle.std.specs.Bool.{⊤}
+use Rattle.std.specs.Iterator.{Yields, Drains}
+use Rattle.std.specs.Iterator.Runs.{EachRunFrom, YieldsRun}
+use Rattle.std.specs.List.{fold}
+use Rattle.std.proofs.lemmas.Iterator.{YieldsList}
+use Rattle.std.proofs.lemmas.Iterator.Adapters.{total_from_yields_List}
+use Rattle.std.proofs.lemmas.Iterator.Consumers.{YieldsList-so_far}
+use Rattle.std.proofs.lemmas.List.Folds.{fold-map}
+use Rattle.std.proofs.lemmas.List.{take-append-drop, take-take, drop-take, drop_more, drop_all, length-take}
 use Rattle.std.proofs.lemmas.Bool.{lt-ltb, le-ltb, and_left, and_right, and_from, and_parts, ltb-true, cases_lt}
 use Rattle.hierarchy.specs.Dimensions.{product}
 use Rattle.hierarchy.specs.Reading.{small}
+use Rattle.hierarchy.specs.Views.{factors_of}
+use Rattle.hierarchy.specs.declared.dimension.Dimension.{Dimension}
 use Rattle.hierarchy.proofs.Laws.{product_append, between_factors, one_factor}
 
 -- the factors from l up to i, and then one more
@@ -63,14 +73,24 @@ bad_front xs i h =
     not_small xs 1 (product (take i xs)) (product (drop i xs))
     (ap product (sym (take-append-drop i xs)) ∙ product_append (take i xs) (drop i xs) ∙ sym (one-mul (product (take i xs) * product (drop i xs)))) (inr h)
 
--- a turn of the loop over the factors that are used, the first n of xs
-pub between_step : (n : ℕ) (xs : List ℕ) (l i p : ℕ) → l ≤ i → i < length (take n xs) → p ≡ product (drop l (take i (take n xs)))
-    → p * get_or xs i 0 ≡ product (drop l (take (i + 1) (take n xs)))
-between_step n xs l i p a b e =
-    let short : i < n = omega (arith, length-take n xs) in
-    let same = get_or-take n xs i 0 short in
-    let more = product_more (take n xs) l i a b in
-    cc
+-- a fold that multiplies from a on
+fold_product : (a : ℕ) (xs : List ℕ) → fold (λ b x. b * x) a xs ≡ a * product xs
+unfolding product
+fold_product a [] = sym (mul-one a)
+fold_product a (x ∷ xs) = fold_product (a * x) xs ∙ mul_assoc a x (product xs)
+
+-- a chain of numbers, read by v, whose product is positive and below top
+module _ {S A : Type 0} {steps : S → Option A → S → Type 0} {v : A → ℕ} {all : List ℕ} {s : S} (road : YieldsList steps v s all) where
+  pub product_fits : (top : ℕ) → 0 < product all → product all < top → EachRunFrom steps s (λ p. fold (λ a x. a * v x) 1 p.items < top)
+  unfolding YieldsRun
+  product_fits top h l = λ p _ at.
+      let front = YieldsList-so_far road p.items p.gave.0.0 (subst (λ u. Yields steps u p.items p.gave.0.0) at p.gave.0.1) in
+      let e : fold (λ a x. a * v x) 1 p.items ≡ product (take (length p.items) all) =
+      sym (fold-map (λ b x. b * x) v 1 p.items) ∙ (fold_product 1 (map v p.items) ∙ (one-mul _ ∙ ap product front)) in
+      omega (arith, e, l, product_between all 0 (length p.items) (omega arith) h)
+
+  pub product_of : (r : ℕ) → (xs : List A) × (⊤ → Drains steps s xs) × (r ≡ fold (λ a x. a * v x) 1 xs) → r ≡ product all
+  product_of r ran = total_from_yields_List (λ b x. b * x) 1 r ran road ∙ (fold_product 1 all ∙ one-mul (product all))
 
 pub mul_positive : (a b : ℕ) → 0 < a → 0 < b → 0 < a * b
 mul_positive zero b p q = absurd (omega arith)
@@ -82,17 +102,36 @@ pub none_between : (xs : List ℕ) (l m : ℕ) → m ≤ l → product (drop l (
 unfolding product
 none_between xs l m h = rw (drop_all l (take m xs) (omega (arith, length-take m xs)))
 
--- where the loop over the factors from l to m ended
-pub whole_between : (xs : List ℕ) (l m i : ℕ) → l ≤ i → m ≤ i → i ≤ max l m → product (drop l (take i xs)) ≡ product (drop l (take m xs))
-whole_between xs l m i a b h = ⊎_elim onward back (cases_lt m l)
-  where
-    onward : m < l → product (drop l (take i xs)) ≡ product (drop l (take m xs))
-    onward k = none_between xs l i (omega arith) ∙ sym (none_between xs l m (omega arith))
-
-    back : l ≤ m → product (drop l (take i xs)) ≡ product (drop l (take m xs))
-    back k = let e : i ≡ m = omega arith in ap (λ n. product (drop l (take n xs))) e
-
 pub small_parts : (xs : List ℕ) → small xs ≡ true → (0 < product xs) × (product xs < 2 ^ 32)
 small_parts xs h =
     let p = and_parts (ltb 0 (product xs)) (ltb (product xs) (2 ^ 32)) h in
     (ltb-true 0 (product xs) p.0, ltb-true (product xs) (2 ^ 32) p.1)
+
+-- the factors of a dimension between two levels, as they lie in its array
+pub same_factors : (d : Dimension) (l m : ℕ) → m ≤ length (factors_of d) → take (m - min l m) (drop (min l m) d.factors) ≡ drop l (take m (factors_of d))
+same_factors d l m h = ⊎_elim none some (cases_lt m l)
+  where
+    none : m < l → take (m - min l m) (drop (min l m) d.factors) ≡ drop l (take m (factors_of d))
+    none k =
+        let e : m - min l m ≡ 0 = omega arith in
+        rw (e, drop_all l (take m (factors_of d)) (omega (arith, length-take m (factors_of d))))
+
+    some : l ≤ m → take (m - min l m) (drop (min l m) d.factors) ≡ drop l (take m (factors_of d))
+    some k =
+        let e : min l m ≡ l = omega arith in
+        let f : l + (m - l) ≡ m = omega arith in
+        let front : take m (factors_of d) ≡ take m d.factors = take-take m d.count d.factors (omega (arith, h, length-take d.count d.factors)) in
+        let part = drop-take l (m - l) d.factors in
+        rw (e, front) (sym (rw f at part))
+
+-- their product is positive and small
+pub part_small : (d : Dimension) (l m : ℕ) → (0 < product (drop l (take m (factors_of d)))) × (product (drop l (take m (factors_of d))) < 2 ^ 32)
+part_small d l m = ⊎_elim none some (cases_lt m l)
+  where
+    none : m < l → (0 < product (drop l (take m (factors_of d)))) × (product (drop l (take m (factors_of d))) < 2 ^ 32)
+    none k = rw (none_between (factors_of d) l m (omega arith)) (omega arith, omega arith)
+
+    some : l ≤ m → (0 < product (drop l (take m (factors_of d)))) × (product (drop l (take m (factors_of d))) < 2 ^ 32)
+    some k =
+        let p = product_between (factors_of d) l m k d.positive in
+        (p.0, omega (arith, p.1, d.small))

@@ -6,7 +6,6 @@ use Rattle.hierarchy.specs.Levels.{finest}
 use Rattle.hierarchy.specs.Places.{place_up}
 use Rattle.hierarchy.specs.Views.{risen, lifted}
 use Rattle.hierarchy.specs.declared.dimension.Rise.{Rise}
-use Rattle.hierarchy.proofs.Readings.{by_four}
 
 pub lifted_at : (rs : List Rise) (ns : Row) (i : ℕ) (r : Rise) → i < length rs → i < length ns → get_or (lifted rs ns) i 0 ≡ risen (get_or rs i r) (get_or ns i 0)
 unfolding lifted
@@ -49,17 +48,10 @@ finest_zeros (a ∷ b ∷ c ∷ d ∷ []) h = refl
 finest_zeros (a ∷ b ∷ c ∷ d ∷ e ∷ ss) h = absurd (omega arith)
 
 -- four rises, of which the first w count, one a dimension
-pub ascent_is : (ss : Dims) (w : ℕ) (a b c d : Rise) (ls ms ns : Row) → length ss ≡ w → w ≤ 4 → length ls ≡ 4 → length ms ≡ 4
-    → (0 < length ss → (n : ℕ) → risen a n ≡ up (get_or ss 0 []) (get_or ls 0 0) (get_or ms 0 0) n)
-    → (1 < length ss → (n : ℕ) → risen b n ≡ up (get_or ss 1 []) (get_or ls 1 0) (get_or ms 1 0) n)
-    → (2 < length ss → (n : ℕ) → risen c n ≡ up (get_or ss 2 []) (get_or ls 2 0) (get_or ms 2 0) n)
-    → (3 < length ss → (n : ℕ) → risen d n ≡ up (get_or ss 3 []) (get_or ls 3 0) (get_or ms 3 0) n)
-    → lifted (take w (a ∷ b ∷ c ∷ d ∷ [])) ns ≡ place_up ss (take (length ss) ls) (take (length ss) ms) ns
-ascent_is ss w a b c d ls ms ns e few x y p q r s =
-    lifted_is ss (take w (a ∷ b ∷ c ∷ d ∷ [])) (take (length ss) ls) (take (length ss) ms) ns
-    (length-take-le w (a ∷ b ∷ c ∷ d ∷ []) few ∙ sym e) (length-take-le (length ss) ls (omega arith)) (length-take-le (length ss) ms (omega arith))
-    (λ j k z n.
-    let below : j < w = omega arith in
-    rw (get_or-take w (a ∷ b ∷ c ∷ d ∷ []) j z below, get_or-take (length ss) ls j 0 k, get_or-take (length ss) ms j 0 k)
-    (by_four (λ i. risen (get_or (a ∷ b ∷ c ∷ d ∷ []) i z) n ≡ up (get_or ss i []) (get_or ls i 0) (get_or ms i 0) n) (length ss) (omega arith)
-    (λ h. p h n) (λ h. q h n) (λ h. r h n) (λ h. s h n) j k))
+pub ascent_is : (ss : Dims) (w : ℕ) (rs : List Rise) (ls ms ns : Row) → length ss ≡ w → w ≤ 4 → length rs ≡ 4 → length ls ≡ 4 → length ms ≡ 4
+    → ((i : ℕ) (r : Rise) → i < 4 → i < length ss → (n : ℕ) → risen (get_or rs i r) n ≡ up (get_or ss i []) (get_or ls i 0) (get_or ms i 0) n)
+    → lifted (take w rs) ns ≡ place_up ss (take (length ss) ls) (take (length ss) ms) ns
+ascent_is ss w rs ls ms ns e few z x y h =
+    lifted_is ss (take w rs) (take (length ss) ls) (take (length ss) ms) ns (length-take-le w rs (omega arith) ∙ sym e)
+    (length-take-le (length ss) ls (omega arith)) (length-take-le (length ss) ms (omega arith))
+    (λ j k r n. rw (get_or-take w rs j r (omega arith), get_or-take (length ss) ls j 0 k, get_or-take (length ss) ms j 0 k) (h j r (omega arith) k n))

@@ -1,5 +1,6 @@
 -- Two rows are the same if they are equal. Assumes nothing.
-use Rattle.std.proofs.Common.{◌≡◌, Bool, true, false, eqb, [], ◌∷◌, sym, refl, inl, inr}
+use Rattle.std.proofs.Common.{◌≡◌, Bool, true, false, ◌&&◌, eqb, [], ◌∷◌, sym, refl, ap, inl, inr}
+use Rattle.std.specs.Cmp.Lexicographic.{pointwise}
 use Rattle.std.proofs.lemmas.Bool.{eqb-true, eq-eqb, and_parts, and_from, true≢false, both_ways, cases_Bool}
 use Rattle.hierarchy.specs.Dimensions.{Row}
 use Rattle.hierarchy.specs.Levels.{same}
@@ -32,3 +33,11 @@ same_sym p q = go (same p q) refl
     go : (v : Bool) → same p q ≡ v → v ≡ same q p
     go true e = sym (is_same q p (sym (same_is p q e)))
     go false e = sym (not_same q p (λ h. both_ways (same p q) e (is_same p q (sym h))))
+
+-- two rows as `==` compares them
+pub same_rows : (xs ys : Row) → pointwise eqb xs ys ≡ same xs ys
+unfolding same
+same_rows [] [] = refl
+same_rows [] (y ∷ ys) = refl
+same_rows (x ∷ xs) [] = refl
+same_rows (x ∷ xs) (y ∷ ys) = ap (λ b. eqb x y && b) (same_rows xs ys)

@@ -1,9 +1,11 @@
 -- What the structs of the code stand for. Assumes nothing: these are definitions.
-use Rattle.std.specs.Prelude.{ℕ, ◌/◌, cond, List, [], ◌∷◌, map, take}
+use Rattle.std.specs.Prelude.{ℕ, ◌/◌, List, [], ◌∷◌, map, take}
+use Rattle.std.specs.Int.NonZero.{non_zero_u64_get}
 use Rattle.hierarchy.specs.Dimensions.{Factors, Dims, Row}
 use Rattle.hierarchy.specs.Facts.{Entry}
 use Rattle.hierarchy.specs.declared.dimension.Dimension.{Dimension}
 use Rattle.hierarchy.specs.declared.dimension.Rise.{Rise}
+use Rattle.hierarchy.specs.declared.dimension.Rise.TheVariants.{By, Together}
 use Rattle.hierarchy.specs.declared.dimensions.Ascent.{Ascent}
 use Rattle.hierarchy.specs.declared.dimensions.Dimensions.{Dimensions}
 use Rattle.hierarchy.specs.declared.fact.Fact.{Fact}
@@ -15,7 +17,8 @@ factors_of d = take d.count d.factors
 
 -- a number as it rises
 abbrev pub risen : Rise → ℕ → ℕ
-risen r n = cond r.together 0 (n / r.by)
+risen (By factors) n = n / non_zero_u64_get factors
+risen Together n = 0
 
 -- a fact of w numbers and an amount
 abbrev pub entry_of : ℕ → Fact → Entry

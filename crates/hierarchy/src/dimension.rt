@@ -2,10 +2,13 @@
 ghost use Rattle.std.specs.Prelude.{◌^◌, ◌<◌, ◌≤◌, take};
 ghost use Rattle.hierarchy.specs.Dimensions.{product};
 
+use std::num::NonZero;
+
 pub mod methods;
 
-// So many factors, the finest first; of the four numbers the others are not used.
-#[derive(Clone, Copy)]
+// So many factors, the finest first; of the four numbers the others are not used. A count beside an array of four, here, in
+// `Dimensions` and in `Ascent`, since the project wants that form and no heap.
+#[derive(Clone, Copy, Debug, PartialEq, Eq)]
 pub struct Dimension {
     count: usize,
     factors: [u64; 4],
@@ -15,9 +18,8 @@ pub struct Dimension {
 }
 
 // How a number rises from one level to a coarser one: it is divided, or everything comes together at 0.
-#[derive(Clone, Copy)]
-pub struct Rise {
-    by: u64,
-    together: bool,
-    ghost some: { 0 < by },
+#[derive(Clone, Copy, Debug, PartialEq, Eq)]
+pub enum Rise {
+    By(NonZero<u64>),
+    Together,
 }

@@ -5,8 +5,8 @@ use super::dimension::{Dimension, Rise};
 
 pub mod methods;
 
-// One to four dimensions; of the four the others are not used.
-#[derive(Clone, Copy)]
+// One to four dimensions; of the four the others are not used. A count beside an array of four: see `Dimension`.
+#[derive(Clone, Copy, Debug, PartialEq, Eq)]
 pub struct Dimensions {
     width: usize,
     each: [Dimension; 4],
@@ -15,8 +15,9 @@ pub struct Dimensions {
     ghost four: { length each ≡ 4 },
 }
 
-// How places rise from levels to coarser ones: one rise a dimension, made once and used for every place.
-#[derive(Clone, Copy)]
+// How places rise from levels to coarser ones: one rise a dimension, made once and used for every place. A count beside four: see
+// `Dimension`.
+#[derive(Clone, Copy, Debug, PartialEq, Eq)]
 pub struct Ascent {
     width: usize,
     each: [Rise; 4],

@@ -2,7 +2,7 @@
 pub mod methods;
 
 // One number a dimension, the others of the four 0, and the amount.
-#[derive(Clone, Copy)]
+#[derive(Clone, Copy, Debug, PartialEq, Eq)]
 pub struct Fact {
     pub place: [u64; 4],
     pub amount: u64,

@@ -6,6 +6,7 @@ mod tests {
     use hierarchy::{Dimension, Dimensions, Fact, Levels};
     use replies::{Refusal, Reply};
     use std::alloc::Global;
+    use std::fmt::Display;
     use std::process::Abort;
     use std::test::Fail;
 
@@ -41,34 +42,13 @@ mod tests {
 
     // How many levels a row's dimension has, if it is one.
     fn level_count(row: &[u64]) -> Option<u64> {
-        match Dimension::read(row) {
-            Some(dimension) => Some(dimension.level_count()),
-            None => None,
-        }
+        Dimension::read(row).map(|dimension| dimension.level_count())
     }
 
-    // The number and the place at which a row of dimensions is refused, if it is.
-    fn dims_refused(row: &[u64]) -> Option<(u64, u128)> {
-        match Dimensions::read(row) {
-            Ok(_) => None,
-            Err(refusal) => Some((refusal.number(), refusal.place())),
-        }
-    }
-
-    // The number and the place at which a row of levels is refused, if it is.
-    fn levels_refused(dims: &Dimensions, row: &[u64]) -> Option<(u64, u128)> {
-        match Levels::read(dims, row) {
-            Ok(_) => None,
-            Err(refusal) => Some((refusal.number(), refusal.place())),
-        }
-    }
-
-    // The number and the place at which a fact is refused, if it is.
-    fn fact_refused(dims: &Dimensions, row: &[u64]) -> Option<(u64, u128)> {
-        match Fact::read(dims, row) {
-            Ok(_) => None,
-            Err(refusal) => Some((refusal.number(), refusal.place())),
-        }
+    // The number and the place at which a row is refused, if it is.
+    fn refused<T: Drop>(read: Result<T, Refusal>) -> Option<(u64, u128)> {
+        read.err()
+            .map(|refusal| (refusal.number(), refusal.place()))
     }
 
     #[test]
@@ -94,17 +74,20 @@ mod tests {
 
     #[test]
     fn rows_of_dimensions(rt: HostRuntime) -> Result<(), Fail> {
-        assert_eq!(rt; dims_refused(&[]), Some((1, 4)));
-        assert_eq!(rt; dims_refused(&[0; 26]), Some((1, 4)));
-        assert_eq!(rt; dims_refused(&[5; 26]), Some((1, 4)));
-        assert_eq!(rt; dims_refused(&[1, 1, 7, 0, 0]), Some((1, 4)));
-        assert_eq!(rt; dims_refused(&[2; 10]), Some((1, 4)));
-        assert_eq!(rt; dims_refused(&[1, 1, 0, 0, 0, 0]), Some((1, 0)));
+        assert_eq!(rt; refused(Dimensions::read(&[])), Some((1, 4)));
+        assert_eq!(rt; refused(Dimensions::read(&[0; 26])), Some((1, 4)));
+        assert_eq!(rt; refused(Dimensions::read(&[5; 26])), Some((1, 4)));
+        assert_eq!(rt; refused(Dimensions::read(&[1, 1, 7, 0, 0])), Some((1, 4)));
+        assert_eq!(rt; refused(Dimensions::read(&[2; 10])), Some((1, 4)));
+        assert_eq!(rt;
+            refused(Dimensions::read(&[1, 1, 0, 0, 0, 0])),
+            Some((1, 0))
+        );
         // The first of two that are none is told.
         let bad = [3, 0, 0, 0, 0, 0, 5, 1, 1, 1, 1, 1, LARGE, 0, 0, 0];
-        assert_eq!(rt; dims_refused(&bad), Some((1, 1)));
+        assert_eq!(rt; refused(Dimensions::read(&bad)), Some((1, 1)));
         // Numbers behind the dimensions are not read.
-        assert_eq!(rt; dims_refused(&[1, 1, 7, 0, 0, 0, 5]), None);
+        assert_eq!(rt; refused(Dimensions::read(&[1, 1, 7, 0, 0, 0, 5])), None);
         let one = Dimensions::read(&[1, 1, 7, 0, 0, 0, 5, 5, 5, 5, 5])?;
         assert_eq!(rt; Levels::count(&one), 3);
         let most = Dimensions::read(&[4; 21])?;
@@ -120,10 +103,10 @@ mod tests {
         assert_eq!(rt; dims.width(), 2);
         assert_eq!(rt; Levels::read(&dims, &[3, 2])?.at, [3, 2, 0, 0]);
         assert_eq!(rt; Levels::read(&dims, &[3, 2, 9, 9, 9])?.at, [3, 2, 0, 0]);
-        assert_eq!(rt; levels_refused(&dims, &[4, 3]), Some((3, 0)));
-        assert_eq!(rt; levels_refused(&dims, &[3, 3]), Some((3, 1)));
-        assert_eq!(rt; levels_refused(&dims, &[]), Some((3, 0)));
-        assert_eq!(rt; levels_refused(&dims, &[3]), Some((3, 1)));
+        assert_eq!(rt; refused(Levels::read(&dims, &[4, 3])), Some((3, 0)));
+        assert_eq!(rt; refused(Levels::read(&dims, &[3, 3])), Some((3, 1)));
+        assert_eq!(rt; refused(Levels::read(&dims, &[])), Some((3, 0)));
+        assert_eq!(rt; refused(Levels::read(&dims, &[3])), Some((3, 1)));
         assert!(rt; levels(1, 1).no_coarser(&dims, levels(2, 1)));
         assert!(rt; !levels(2, 1).no_coarser(&dims, levels(1, 1)));
         assert!(rt; !levels(0, 1).no_coarser(&dims, levels(3, 0)));
@@ -135,9 +118,9 @@ mod tests {
     fn all_levels_in_order(rt: HostRuntime) -> Result<(), Fail> {
         let dims = Dimensions::read(&TWO)?;
         assert_eq!(rt; Levels::count(&dims), 12);
-        for i in 0..12 {
+        for (i, at) in ALL.iter().enumerate() {
             let row = Levels::nth(&dims, i).ok_or("no levels")?;
-            assert_eq!(rt; row.at, ALL[i]);
+            assert_eq!(rt; row.at, *at);
             assert!(rt; Levels::finest().no_coarser(&dims, row));
         }
         assert!(rt; Levels::nth(&dims, 12).is_none());
@@ -150,12 +133,15 @@ mod tests {
         let fact = Fact::read(&dims, &[5, LARGE - 1, LARGE - 2])?;
         assert_eq!(rt; fact.place, [5, LARGE - 1, 0, 0]);
         assert_eq!(rt; fact.amount, LARGE - 2);
-        assert_eq!(rt; fact_refused(&dims, &[LARGE, LARGE, LARGE]), Some((5, 0)));
-        assert_eq!(rt; fact_refused(&dims, &[0, LARGE, 0, 0]), Some((5, 1)));
-        assert_eq!(rt; fact_refused(&dims, &[0, 0, LARGE]), Some((5, 2)));
-        assert_eq!(rt; fact_refused(&dims, &[0, 0]), Some((5, 2)));
-        assert_eq!(rt; fact_refused(&dims, &[0, 0, 0, 0]), Some((5, 3)));
-        assert_eq!(rt; fact_refused(&dims, &[]), Some((5, 0)));
+        assert_eq!(rt;
+            refused(Fact::read(&dims, &[LARGE, LARGE, LARGE])),
+            Some((5, 0))
+        );
+        assert_eq!(rt; refused(Fact::read(&dims, &[0, LARGE, 0, 0])), Some((5, 1)));
+        assert_eq!(rt; refused(Fact::read(&dims, &[0, 0, LARGE])), Some((5, 2)));
+        assert_eq!(rt; refused(Fact::read(&dims, &[0, 0])), Some((5, 2)));
+        assert_eq!(rt; refused(Fact::read(&dims, &[0, 0, 0, 0])), Some((5, 3)));
+        assert_eq!(rt; refused(Fact::read(&dims, &[])), Some((5, 0)));
         Ok(())
     }
 
@@ -178,13 +164,13 @@ mod tests {
         Ok(())
     }
 
-    fn says(rt: &impl Abort, heap: Global, refusal: Refusal, text: &str) -> Result<(), Fail> {
-        assert_eq!(rt; format!(in heap; "{refusal}")?.as_str(), text);
-        Ok(())
-    }
-
-    fn answers(rt: &impl Abort, heap: Global, reply: Reply, text: &str) -> Result<(), Fail> {
-        assert_eq!(rt; format!(in heap; "{reply}")?.as_str(), text);
+    fn says<T: Display + Drop>(
+        rt: &impl Abort,
+        heap: Global,
+        told: T,
+        text: &str,
+    ) -> Result<(), Fail> {
+        assert_eq!(rt; format!(in heap; "{told}")?.as_str(), text);
         Ok(())
     }
 
@@ -194,9 +180,9 @@ mod tests {
         says(&rt, rt.alloc(), Refusal::BadFact(2), "refused 5 at 2")?;
         says(&rt, rt.alloc(), Refusal::BadGroup(3), "refused 2 at 19")?;
         says(&rt, rt.alloc(), Refusal::NotKept, "refused 7 at 16")?;
-        answers(&rt, rt.alloc(), Reply::Done, "done")?;
-        answers(&rt, rt.alloc(), Reply::Shown(5), "work 5")?;
-        let refused = Reply::Refused(Refusal::NoLevel(1));
-        answers(&rt, rt.alloc(), refused, "refused 3 at 1")
+        says(&rt, rt.alloc(), Reply::Done, "done")?;
+        says(&rt, rt.alloc(), Reply::Shown(5), "work 5")?;
+        let reply = Reply::Refused(Refusal::NoLevel(1));
+        says(&rt, rt.alloc(), reply, "refused 3 at 1")
     }
 }

@@ -1,12 +1,13 @@
 -- What is told of one deed, and of the deeds that are left. Assumes nothing.
-use Rattle.std.proofs.Common.{◌≡◌, ℕ, Bool, false, eqb, List, [], ◌∷◌, ◌++◌, length, take, Some, None, Option, sym, refl, ap, ◌∙◌, append_assoc, append-nil, arith}
+use Rattle.std.proofs.Common.{◌≡◌, ℕ, true, false, eqb, List, [], ◌∷◌, ◌++◌, length, take, is_ok, Ok, Err, Result, None, Option, sym, refl, ap, ◌∙◌, append_assoc, append-nil, arith}
 use Rattle.std.proofs.lemmas.Bool.{ne_eqb}
 use Rattle.hierarchy.specs.Dimensions.{Dims, Row}
 use Rattle.replies.specs.declared.Refusal.{Refusal}
 use Rattle.replies.specs.declared.Reply.{Reply}
 use Rattle.replies.specs.declared.Reply.TheVariants.{Shown}
+use Rattle.replies.specs.Replies.{of_question}
 use Rattle.totals.specs.Tables.{Table}
-use Rattle.model.specs.House.{House, Limits, Deed, insert, delete, keep, drop_table, ask, Told, done, shown, refused, or_refused, refusal, empty, step, told}
+use Rattle.model.specs.House.{House, Limits, Deed, Told, done, shown, refused, empty, step, told}
 use Rattle.storage.specs.Memory.{sides, limits, reply_of}
 use Rattle.warehouse.specs.Views.{dims_in, limits_in, house_of}
 use Rattle.warehouse.specs.declared.house.Warehouse.{Warehouse}
@@ -16,52 +17,13 @@ use Rattle.hierarchy.specs.declared.dimensions.Dimensions.{Dimensions}
 use Rattle.hierarchy.specs.Reading.{dims_refusal}
 use Rattle.hierarchy.specs.Reading.{dims_in as read_dims}
 use Rattle.formats.specs.Bytes.{Bytes, sides_of, behind_sides}
-use Rattle.journal.specs.Days.{day_deeds, text_or_refusal, whole_or_refused, day_text, day_whole}
+use Rattle.journal.specs.Days.{day_deeds, text_or_refusal, day_text}
 use Rattle.journal.specs.Deeds.{deed_of, deeds_in, is_deed, is_whole, whole_past}
 use Rattle.journal.specs.Steps.{Reads}
 use Rattle.journal.proofs.Deeds.{deeds_read, deeds_stop, whole_stop}
 use Rattle.formats.specs.Text.{table_text, reply_line}
 use Rattle.journal.specs.Replies.{told_text, replies}
-use Rattle.model.proofs.Laws.{step_ask}
 use Rattle.journal.specs.declared.deed.Kind.{Kind}
-use Rattle.journal.specs.declared.deed.Kind.TheVariants.{Ask}
-
--- where nothing is shown, what is told is the reply
-abbrev pub Plain : Dims → Limits → House → Deed → Type 0
-Plain ss lim h d = told_text (told ss lim h d) ≡ reply_line (reply_of (told ss lim h d))
-
-plain_done : (o : Option Refusal) → told_text (or_refused o done) ≡ reply_line (reply_of (or_refused o done))
-plain_done None = refl
-plain_done (Some r) = refl
-
-pub plain_insert : (ss : Dims) (lim : Limits) (h : House) (xs : Row) → Plain ss lim h (insert xs)
-unfolding told
-plain_insert ss lim h xs = plain_done (refusal ss lim h (insert xs))
-
-pub plain_delete : (ss : Dims) (lim : Limits) (h : House) (xs : Row) → Plain ss lim h (delete xs)
-unfolding told
-plain_delete ss lim h xs = plain_done (refusal ss lim h (delete xs))
-
-pub plain_keep : (ss : Dims) (lim : Limits) (h : House) (xs : Row) → Plain ss lim h (keep xs)
-unfolding told
-plain_keep ss lim h xs = plain_done (refusal ss lim h (keep xs))
-
-pub plain_drop : (ss : Dims) (lim : Limits) (h : House) (xs : Row) → Plain ss lim h (drop_table xs)
-unfolding told
-plain_drop ss lim h xs = plain_done (refusal ss lim h (drop_table xs))
-
--- a deed of this kind was done, and its reply written
-pub acted : (ss : Dims) (lim : Limits) (h h₁ : House) (n : ℕ) (kind k : Kind) (xs : Row) (r : Reply) (t₀ t₁ : List ℕ) (A : Type 0) → kind ≡ k
-    → Plain ss lim h (deed_of n k xs) → r ≡ reply_of (told ss lim h (deed_of n k xs)) → h₁ ≡ step ss lim h (deed_of n k xs) → t₁ ≡ t₀ ++ reply_line r → A
-    → (t₁ ≡ t₀ ++ told_text (told ss lim h (deed_of n kind xs))) × (h₁ ≡ step ss lim h (deed_of n kind xs)) × A
-acted ss lim h h₁ n kind k xs r t₀ t₁ A is plain reply house text same =
-    rw is (text ∙ ap (λ (bs : List ℕ). t₀ ++ bs) (ap reply_line reply ∙ sym plain), house, same)
-
--- an answer changes nothing
-pub asked : (ss : Dims) (lim : Limits) (h : House) (n : ℕ) (kind : Kind) (xs : Row) (t₀ t₁ : List ℕ) (A : Type 0) → kind ≡ Ask
-    → t₁ ≡ t₀ ++ told_text (told ss lim h (ask xs n)) → A
-    → (t₁ ≡ t₀ ++ told_text (told ss lim h (deed_of n kind xs))) × (h ≡ step ss lim h (deed_of n kind xs)) × A
-asked ss lim h n kind xs t₀ t₁ A is text same = rw is (text, sym (step_ask ss lim h xs n), same)
 
 -- the reply is the one to an answer
 pub told_shown : (d : Told) (n : ℕ) → Shown n ≡ reply_of d → (t : Table) × (d ≡ shown t n)
@@ -73,10 +35,18 @@ pub shown_text : (d : Told) (n : ℕ) (t : Table) (t₀ t₁ t₂ : List ℕ) �
 shown_text d n t t₀ t₁ t₂ e a b =
     rw e (b ∙ (ap (λ (bs : List ℕ). bs ++ reply_line (Shown n)) a ∙ append_assoc t₀ (table_text t) (reply_line (Shown n))))
 
-pub plain_text : (d : Told) (r : Reply) (t₀ t₁ : List ℕ) → r ≡ reply_of d → ((n : ℕ) → r ≡ Shown n → ⊥) → t₁ ≡ t₀ ++ reply_line r → t₁ ≡ t₀ ++ told_text d
-plain_text done r t₀ t₁ e no_answer text = text ∙ ap (λ (x : Reply). t₀ ++ reply_line x) e
-plain_text (shown t n) r t₀ t₁ e no_answer text = absurd (no_answer n e)
-plain_text (refused x) r t₀ t₁ e no_answer text = text ∙ ap (λ (y : Reply). t₀ ++ reply_line y) e
+-- where a question was answered, the groups and the work are told, and else why not
+pub answer_text : (d : Told) (r : Result ℕ Refusal) (t₀ t₁ t₂ : List ℕ) → of_question r ≡ reply_of d → is_ok r ≡ true
+    → ((t : Table) (n : ℕ) → d ≡ shown t n → t₁ ≡ t₀ ++ table_text t) → t₂ ≡ t₁ ++ reply_line (of_question r) → t₂ ≡ t₀ ++ told_text d
+answer_text d (Ok n) t₀ t₁ t₂ e ok table text = let a = told_shown d n e in shown_text d n a.0 t₀ t₁ t₂ a.1 (table a.0 n a.1) text
+answer_text d (Err r) t₀ t₁ t₂ e ok table text = let z : ◌≡◌ {A = ℕ} 0 1 = cc in absurd (omega arith)
+
+pub refused_text : (d : Told) (r : Result ℕ Refusal) (t₀ t₁ : List ℕ) → of_question r ≡ reply_of d → is_ok r ≡ false → t₁ ≡ t₀ ++ reply_line (of_question r)
+    → t₁ ≡ t₀ ++ told_text d
+refused_text d (Ok n) t₀ t₁ e bad text = let z : ◌≡◌ {A = ℕ} 0 1 = cc in absurd (omega arith)
+refused_text done (Err x) t₀ t₁ e bad text = text ∙ ap (λ (r : Reply). t₀ ++ reply_line r) e
+refused_text (shown t n) (Err x) t₀ t₁ e bad text = let z : ◌≡◌ {A = ℕ} 0 1 = cc in absurd (omega arith)
+refused_text (refused y) (Err x) t₀ t₁ e bad text = text ∙ ap (λ (r : Reply). t₀ ++ reply_line r) e
 
 -- what was told, and what is told of the deeds that are left
 pub told_on : (ss : Dims) (lim : Limits) (h h₁ : House) (d : Deed) (ds : List Deed) (t₀ t₁ all : List ℕ) → t₁ ≡ t₀ ++ told_text (told ss lim h d)
@@ -117,29 +87,16 @@ run_whole w [] none = refl
 run_whole w (b ∷ bs) none = ne_eqb (length (b ∷ bs)) 0 (λ e. omega arith) ∙ sym (whole_stop w (b ∷ bs) none (omega arith))
 
 -- the run begins with an empty warehouse
-pub begun : (house : Warehouse) (layout : Layout) (dims : Dimensions) (lim : Limits) (w n : ℕ) (bs : Bytes) (t : List ℕ) → house.layout ≡ layout
-    → house_of house ≡ empty (sides layout) → layout.tables.dims ≡ dims → limits layout ≡ lim → w ≡ length (dims_of dims)
-    → t ++ replies (dims_in house) (limits_in house) (house_of house) (deeds_in w n bs)
-    ≡ t ++ replies (dims_of dims) lim (empty (dims_of dims)) (deeds_in (length (dims_of dims)) n bs)
-begun house layout dims lim w n bs t a b c d f =
-    let ss : dims_in house ≡ dims_of dims = ap sides a ∙ ap dims_of c in
-    let room : limits_in house ≡ lim = ap limits a ∙ d in
-    let h : house_of house ≡ empty (dims_of dims) = b ∙ ap (λ (x : Dimensions). empty (dims_of x)) c in
-    ap (λ (xs : Dims). t ++ replies xs (limits_in house) (house_of house) (deeds_in w n bs)) ss
-    ∙ (ap (λ (x : Limits). t ++ replies (dims_of dims) x (house_of house) (deeds_in w n bs)) room
-    ∙ (ap (λ (x : House). t ++ replies (dims_of dims) lim x (deeds_in w n bs)) h
-    ∙ ap (λ (v : ℕ). t ++ replies (dims_of dims) lim (empty (dims_of dims)) (deeds_in v n bs)) f))
+pub begun : (ss ss₁ : Dims) (lim lim₁ : Limits) (h h₁ : House) (w w₁ n n₁ : ℕ) (bs : Bytes) (t : List ℕ) → ss ≡ ss₁ → lim ≡ lim₁ → h ≡ h₁ → w ≡ w₁ → n ≡ n₁ → t ≡ []
+    → t ++ replies ss lim h (deeds_in w n bs) ≡ replies ss₁ lim₁ h₁ (deeds_in w₁ n₁ bs)
+begun ss ss₁ lim lim₁ h h₁ w w₁ n n₁ bs t a b c d e f = rw (a, b, c, d, e, f) refl
 
--- the whole day
-pub day_done : (lim : Limits) (n : ℕ) (bs part : Bytes) (row text : List ℕ) (whole : Bool) (dims : Dimensions) → row ≡ sides_of bs → dims_refusal row ≡ None → dims_of dims ≡ read_dims row
-    → part ≡ behind_sides bs → text ≡ replies (dims_of dims) lim (empty (dims_of dims)) (deeds_in (length (dims_of dims)) n part)
-    → whole ≡ is_whole (length (dims_of dims)) part → (text ≡ day_text lim n bs) × (whole ≡ day_whole bs)
-day_done lim n bs part row text whole dims a none b c t w =
+-- the text of the whole day
+pub day_told : (lim : Limits) (n : ℕ) (bs part : Bytes) (row text : List ℕ) (dims : Dimensions) → row ≡ sides_of bs → dims_refusal row ≡ None → dims_of dims ≡ read_dims row
+    → part ≡ behind_sides bs → text ≡ replies (dims_of dims) lim (empty (dims_of dims)) (deeds_in (length (dims_of dims)) n part) → text ≡ day_text lim n bs
+day_told lim n bs part row text dims a none b c t =
     let ss : dims_of dims ≡ read_dims (sides_of bs) = b ∙ ap read_dims a in
     let good : dims_refusal (sides_of bs) ≡ None = ap dims_refusal (sym a) ∙ none in
-    let x = t ∙ (ap (λ (zs : Dims). replies zs lim (empty zs) (deeds_in (length zs) n part)) ss
-    ∙ ap (λ (ys : Bytes). replies (read_dims (sides_of bs)) lim (empty (read_dims (sides_of bs))) (deeds_in (length (read_dims (sides_of bs))) n ys)) c) in
-    let y = w ∙ (ap (λ (zs : Dims). is_whole (length zs) part) ss ∙ ap (λ (ys : Bytes). is_whole (length (read_dims (sides_of bs))) ys) c) in (
-      x ∙ sym (ap (λ (o : Option Refusal). text_or_refusal o (replies (read_dims (sides_of bs)) lim (empty (read_dims (sides_of bs))) (day_deeds n bs))) good),
-      y ∙ sym (ap (λ (o : Option Refusal). whole_or_refused o (is_whole (length (read_dims (sides_of bs))) (behind_sides bs))) good),
-    )
+    t ∙ (ap (λ (zs : Dims). replies zs lim (empty zs) (deeds_in (length zs) n part)) ss
+    ∙ (ap (λ (ys : Bytes). replies (read_dims (sides_of bs)) lim (empty (read_dims (sides_of bs))) (deeds_in (length (read_dims (sides_of bs))) n ys)) c
+    ∙ sym (ap (λ (o : Option Refusal). text_or_refusal o (replies (read_dims (sides_of bs)) lim (empty (read_dims (sides_of bs))) (day_deeds n bs))) good)))

@@ -1,16 +1,22 @@
 -- The deeds of a file: a byte that says which, and the numbers that come with it. w is the number of dimensions, and n the length of
 -- the row that is lent to every ask. Assumes nothing: these are definitions.
-use Rattle.std.specs.Prelude.{ℕ, zero, suc, ◌+◌, ◌*◌, Bool, true, cond, ◌&&◌, List, [], ◌∷◌, length, drop, ◌==◌, nat_le, slice_index}
+use Rattle.std.specs.Prelude.{◌≡◌, ℕ, zero, suc, ◌+◌, ◌*◌, ◌<◌, ◌≤◌, Bool, true, cond, ◌&&◌, List, [], ◌∷◌, length, drop, Ok, Err, Result, ◌==◌, nat_le, slice_index}
 use Rattle.std.specs.List.{flat_map}
 use Rattle.hierarchy.specs.Dimensions.{Row}
 use Rattle.model.specs.House.{Deed, insert, delete, keep, drop_table, ask}
 use Rattle.formats.specs.Bytes.{Bytes, numbers, numbers_out}
 use Rattle.journal.specs.declared.deed.Kind.{Kind}
+use Rattle.journal.specs.declared.deed.NoDeed.{NoDeed}
 use Rattle.journal.specs.declared.deed.Kind.TheVariants.{Insert, Delete, Keep, Drop, Ask}
 
 -- which deed a byte from 0 to 4 says
 abbrev pub kind_of : ℕ → Kind
 kind_of b = cond (b == 0) Insert (cond (b == 1) Delete (cond (b == 2) Keep (cond (b == 3) Drop Ask)))
+
+-- a byte says a deed, or that it is none
+abbrev pub Says : ℕ → Result Kind NoDeed → Type 0
+Says b (Ok k) = (b ≤ 4) × (k ≡ kind_of b)
+Says b (Err none) = (4 < b) × (none.0 ≡ b)
 
 -- how many numbers come with it: a fact has an amount behind its place, levels have none
 abbrev pub row_length : ℕ → Kind → ℕ

@@ -1,5 +1,5 @@
 // A day: the deeds of a file, done in order from an empty warehouse, and what is told of them.
-ghost use Rattle.std.specs.Prelude.{◌≡◌, ◌++◌, length, IfOk, string_bytes, OnOk};
+ghost use Rattle.std.specs.Prelude.{◌≡◌, [], ◌++◌, length, IfOk, OnOk, vec_len, string_bytes};
 ghost use Rattle.hierarchy.specs.Views.{dims_of};
 ghost use Rattle.model.specs.House.{ask, empty, step, told};
 ghost use Rattle.warehouse.specs.Views.{dims_in, limits_in, house_of};
@@ -32,7 +32,7 @@ pub const ROW: usize = 389;
 
 const _: () = prove!(ROW == 5 + 6 * GROUPS);
 
-// What was told, and whether the file ended right behind a deed.
+// What was told, and whether the file ended right behind a deed; the text is there either way.
 #[derive(Drop)]
 pub struct Day {
     pub text: String,
@@ -53,85 +53,82 @@ pub fn replay_in(heap: Global, room: Room, bytes: &[u8]) -> Result<Day, NoMemory
     ensures answers { IfOk result (λ d. AnswersRight (limits_of room) (row_of room) bytes.now (string_bytes d.text)) }
 {
     let sides = read_sides(heap, bytes)?;
-    let mut text = String::new(heap);
     match Dimensions::read(sides.as_slice()) {
         Err(refusal) => {
+            let mut text = String::new(heap);
             write_reply(&mut text, Reply::Refused(refusal))?;
             Ok(Day { text, whole: true })
         }
-        Ok(dims) => {
-            let whole = run(
-                heap,
-                dims,
-                room,
-                &bytes[4 * count_sides(bytes)..],
-                &mut text,
-            )?;
-            Ok(Day { text, whole })
-        }
+        Ok(dims) => run(heap, dims, room, &bytes[4 * count_sides(bytes)..]),
     }
 }
 
-// Does all deeds in order; whether no byte is left over.
-fn run(
-    heap: Global,
-    dims: Dimensions,
-    room: Room,
-    bytes: &[u8],
-    text: &mut String,
-) -> Result<bool, NoMemory>
-    ensures { IfOk result (λ whole. (string_bytes text.new ≡ string_bytes text.old ++ replies (dims_of dims) (limits_of room) (empty (dims_of dims)) (deeds_in (length (dims_of dims)) (row_of room) bytes.now)) × (whole ≡ is_whole (length (dims_of dims)) bytes.now)) }
+// Does all deeds in order: what was told, and whether no byte is left over.
+fn run(heap: Global, dims: Dimensions, room: Room, bytes: &[u8]) -> Result<Day, NoMemory>
+    ensures text { IfOk result (λ d. string_bytes d.text ≡ replies (dims_of dims) (limits_of room) (empty (dims_of dims)) (deeds_in (length (dims_of dims)) (row_of room) bytes.now)) }
+    ensures whole { IfOk result (λ d. d.whole ≡ is_whole (length (dims_of dims)) bytes.now) }
 {
     let width = dims.width();
-    let mut house = Warehouse::open(heap, Layout::with_room(dims, room))?;
-    let mut out = vec![in heap; 0; room.row_length()]?;
+    let mut desk = Desk::open(heap, dims, room)?;
     let mut rest = bytes;
     while let Some(step) = next_deed(width, rest) {
-        act(
-            &mut house,
-            step.kind,
-            &step.numbers[0..step.count],
-            &mut out[..],
-            text,
-        )?;
+        desk.act(step.kind, &step.numbers[..step.count])?;
         rest = step.rest;
     }
-    Ok(rest.is_empty())
+    let whole = rest.is_empty();
+    let Desk { text, .. } = desk;
+    Ok(Day { text, whole })
 }
 
-// Does one deed and tells of it.
-fn act(
-    house: &mut Warehouse,
-    kind: Kind,
-    numbers: &[u64],
-    out: &mut [u64],
-    text: &mut String,
-) -> Result<(), NoMemory>
-    ensures { OnOk result ((string_bytes text.new ≡ string_bytes text.old ++ told_text (told (dims_in house.old) (limits_in house.old) (house_of house.old) (deed_of (length out.old) kind numbers.now))) × (house_of house.new ≡ step (dims_in house.old) (limits_in house.old) (house_of house.old) (deed_of (length out.old) kind numbers.now)) × (house.new.layout ≡ house.old.layout)) }
-{
-    match kind {
-        Kind::Insert => write_reply(text, house.insert(numbers))?,
-        Kind::Delete => write_reply(text, house.delete(numbers))?,
-        Kind::Keep => write_reply(text, house.keep(numbers))?,
-        Kind::Drop => write_reply(text, house.drop_table(numbers))?,
-        Kind::Ask => answer(house, numbers, out, text)?,
-    }
-    Ok(())
+// A warehouse, the row that is lent to its answers, and the text of what was told so far.
+#[derive(Drop)]
+struct Desk {
+    house: Warehouse,
+    out: Vec<u64>,
+    text: String,
 }
 
-// Asks, and tells the groups and the work, or why there are none.
-fn answer(
-    house: &Warehouse,
-    numbers: &[u64],
-    out: &mut [u64],
-    text: &mut String,
-) -> Result<(), NoMemory>
-    ensures { OnOk result (string_bytes text.new ≡ string_bytes text.old ++ told_text (told (dims_in house.now) (limits_in house.now) (house_of house.now) (ask numbers.now (length out.old)))) }
-{
-    let reply = house.ask(numbers, out);
-    if let Reply::Shown(_) = reply {
-        write_table(text, house.shape(), out)?;
+impl Desk {
+    // An empty warehouse with so much room, and nothing told.
+    fn open(heap: Global, dims: Dimensions, room: Room) -> Result<Desk, NoMemory>
+        ensures dims { IfOk result (λ d. dims_in d.house ≡ dims_of dims) }
+        ensures room { IfOk result (λ d. (limits_in d.house ≡ limits_of room) × (vec_len d.out ≡ row_of room)) }
+        ensures none { IfOk result (λ d. (house_of d.house ≡ empty (dims_of dims)) × (string_bytes d.text ≡ [])) }
+    {
+        Ok(Desk {
+            house: Warehouse::open(heap, Layout::with_room(dims, room))?,
+            out: vec![in heap; 0; room.row_length()]?,
+            text: String::new(heap),
+        })
     }
-    write_reply(text, reply)?;
-    Ok(())
+
+    // Does one deed and tells of it.
+    fn act(&mut self, kind: Kind, numbers: &[u64]) -> Result<(), NoMemory>
+        ensures told { OnOk result (string_bytes self.new.text ≡ string_bytes self.old.text ++ told_text (told (dims_in self.old.house) (limits_in self.old.house) (house_of self.old.house) (deed_of (vec_len self.old.out) kind numbers.now))) }
+        ensures house { OnOk result (house_of self.new.house ≡ step (dims_in self.old.house) (limits_in self.old.house) (house_of self.old.house) (deed_of (vec_len self.old.out) kind numbers.now)) }
+        ensures same { OnOk result ((self.new.house.layout ≡ self.old.house.layout) × (vec_len self.new.out ≡ vec_len self.old.out)) }
+    {
+        // Each arm is a method with a contract of its own, which a table of closures would hide.
+        match kind {
+            Kind::Insert => write_reply(&mut self.text, self.house.insert(numbers).into())?,
+            Kind::Delete => write_reply(&mut self.text, self.house.delete(numbers).into())?,
+            Kind::Keep => write_reply(&mut self.text, self.house.keep(numbers).into())?,
+            Kind::Drop => write_reply(&mut self.text, self.house.drop_table(numbers).into())?,
+            Kind::Ask => self.answer(numbers)?,
+        }
+        Ok(())
+    }
+
+    // Asks, and tells the groups and the work, or why there are none.
+    fn answer(&mut self, numbers: &[u64]) -> Result<(), NoMemory>
+        ensures told { OnOk result (string_bytes self.new.text ≡ string_bytes self.old.text ++ told_text (told (dims_in self.old.house) (limits_in self.old.house) (house_of self.old.house) (ask numbers.now (vec_len self.old.out)))) }
+        ensures same { OnOk result ((self.new.house ≡ self.old.house) × (vec_len self.new.out ≡ vec_len self.old.out)) }
+    {
+        let reply = self.house.ask(numbers, &mut self.out);
+        if reply.is_ok() {
+            write_table(&mut self.text, self.house.shape(), &self.out)?;
+        }
+        write_reply(&mut self.text, reply.into())?;
+        Ok(())
+    }
 }

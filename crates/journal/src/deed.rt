@@ -11,8 +11,13 @@ pub enum Kind {
     Ask,
 }
 
+// A byte that says no deed.
+#[derive(Clone, Copy, PartialEq, Eq, Debug)]
+pub struct NoDeed(pub u8);
+
 // A deed that was read: what it asks for, the numbers that come with it, the first so many of the five, and the bytes behind it.
-#[derive(Clone, Copy)]
+// A `Vec` would let `next_deed` fail, which it can't; an array that knows its count would be no plainer, a crate more for this field.
+#[derive(Clone, Copy, Debug, PartialEq, Eq)]
 pub struct Step<'a> {
     pub kind: Kind,
     pub count: usize,

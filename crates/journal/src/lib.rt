@@ -6,5 +6,5 @@ pub mod deed;
 pub mod theorems;
 
 pub use day::{Day, replay, replay_in};
-pub use deed::{Kind, Step};
+pub use deed::{Kind, NoDeed, Step};
 pub use formats::{NoMemory, bytes, text};

@@ -4,36 +4,26 @@ ghost use Rattle.journal.specs.Promises.{ReadBack, ToldBack, BrokenOff, WrittenB
 ghost use Rattle.journal.specs.Examples.{Worked};
 
 /// A day that is written as bytes and read again is the same day.
-pub fn read_back() -> u8
+pub fn read_back()
     ensures { ReadBack }
-{
-    0
-}
+{}
 
 /// Its text is the answers to its deeds.
-pub fn told_back() -> u8
+pub fn told_back()
     ensures { ToldBack }
-{
-    0
-}
+{}
 
 /// Deeds before a byte that is none, or before one that is cut short, stand, and the day is not whole.
-pub fn broken_off() -> u8
+pub fn broken_off()
     ensures { BrokenOff }
-{
-    0
-}
+{}
 
 /// Bytes of whole deeds are these deeds written out, so that nothing that is read is lost.
-pub fn written_back() -> u8
+pub fn written_back()
     ensures { WrittenBack }
-{
-    0
-}
+{}
 
 /// Files worked out by hand.
-pub fn worked_examples() -> u8
+pub fn worked_examples()
     ensures { Worked }
-{
-    0
-}
+{}

@@ -1,6 +1,7 @@
 -- Copies of a fact in a list, and the list without the first of them. Assumes nothing.
-use Rattle.std.proofs.Common.{◌≡◌, ℕ, suc, ◌+◌, ◌-◌, ◌<◌, Bool, true, false, cond, List, [], ◌∷◌, ◌++◌, reverse, length, get_or, take, drop, sym, refl, ap, ◌∙◌, add_comm, add-one, arith, length-drop}
+use Rattle.std.proofs.Common.{◌≡◌, ℕ, suc, ◌+◌, ◌-◌, ◌<◌, ◌≤◌, Bool, true, false, cond, List, [], ◌∷◌, ◌++◌, reverse, length, get_or, take, drop, Some, None, Option, sym, refl, ap, ◌∙◌, add_comm, add-one, arith, length-drop}
 use Rattle.std.specs.List.{remove}
+use Rattle.std.specs.Option.{MatchOption}
 use Rattle.std.proofs.lemmas.List.{reverse-append, length-reverse, get_or-reverse, take-append-drop, drop_more, append_assoc, get_or-drop}
 use Rattle.std.proofs.lemmas.Bool.{and_parts, and_from, eqb-true, eq-eqb}
 use Rattle.hierarchy.specs.Facts.{Entry, same_fact, copies, without}
@@ -53,9 +54,13 @@ none_reversed e t h j l =
     let k : j < length t = omega (arith, length-reverse t) in
     rw (get_or-reverse t j nothing k) (h (length t - 1 - j) (omega arith))
 
--- with none in the list in order, none is found
-pub none_found : (e : Entry) (t : List Entry) → NoneSame e t → copies e (reverse t) ≡ 0
-none_found e t h = none_copies e (reverse t) (none_reversed e t h)
+-- what a search from the end finds
+pub newest_found : (e : Entry) (t : List Entry) (n : ℕ) (r : Option ℕ) → length t ≡ n
+    → MatchOption r ((k : ℕ) → 0 ≤ k → k < n → same_fact e (get_or t k nothing) ≡ false)
+    (λ i. (i < n) × (same_fact e (get_or t i nothing) ≡ true) × ((k : ℕ) → i < k → k < n → same_fact e (get_or t k nothing) ≡ false))
+    → elim r as (λ x. Type 0) [ Some i ↦ Newest e t i | None ↦ copies e (reverse t) ≡ 0 ]
+newest_found e t n None long h = none_copies e (reverse t) (none_reversed e t (λ k l. h k (omega arith) (omega arith)))
+newest_found e t n (Some i) long h = (omega (arith, h.0), h.1, λ k a b. h.2 k a (omega arith))
 
 -- the first that equals e, behind some that do not
 without_at : (e x : Entry) (ds es : List Entry) → NoneSame e ds → same_fact e x ≡ true → without e (ds ++ (x ∷ es)) ≡ ds ++ es

@@ -1,14 +1,17 @@
 -- How facts lie in a row. Only what a part is, a place and the amount behind it, is used here of a fact's layout. Assumes nothing.
-use Rattle.std.proofs.Common.{◌≡◌, ℕ, suc, ◌+◌, ◌-◌, ◌*◌, ◌<◌, ◌≤◌, List, [], ◌∷◌, ◌++◌, reverse, length, get_or, take, drop, set, sym, refl, ap, ◌∙◌, inl, inr, mul-add, arith, length-append, length-drop}
+use Rattle.std.proofs.Common.{◌≡◌, ℕ, suc, Bool, ◌+◌, ◌-◌, ◌*◌, ◌<◌, ◌≤◌, List, [], ◌∷◌, ◌++◌, reverse, length, get_or, take, drop, set, nat_eq, sym, refl, ap, ◌∙◌, inl, inr, mul-add, arith, length-append, length-drop}
 use borrow.Rule.Slice.PartMut.{put_mid}
 use Rattle.std.specs.List.{flat_map, remove}
 use lib.Seq.{paste}
 use Rattle.std.proofs.lemmas.List.{take-append-drop, take_at, drop-drop, drop_more, drop_all, length-take-le, get_or_at, get_or_append_left, set-append_right, reverse-append, reverse-reverse, length-reverse, length_push}
 use Rattle.std.proofs.lemmas.List.Edits.{length-remove, get_or-remove_below, get_or-remove_above}
 use Rattle.std.proofs.lemmas.Bool.{cases_lt}
+use Rattle.std.specs.Cmp.Lexicographic.{pointwise}
 use Rattle.hierarchy.specs.Facts.{Entry}
+use Rattle.hierarchy.specs.Levels.{same}
 use Rattle.hierarchy.proofs.Parts.{next_place, place_le, part_at, parts_length, put_mid_behind, paste_behind, part_removed, part_pushed, in_out, length_out}
 use Rattle.ledger.specs.Book.{stride, start, entry_in, entry_out, count_in, in_order, facts_in, Holds, holding, nothing}
+use Rattle.hierarchy.proofs.Rows.{same_rows}
 
 -- a fact that is there ends within the row
 pub fact_end : (w n i room : ℕ) → start w n ≤ room → i < n → start w i + stride w ≤ room
@@ -32,13 +35,23 @@ entry_out_in w xs h =
     cc
 
 -- a place and an amount, written one after the other over a part
-pub written : (w : ℕ) (xs ys : List ℕ) (a : ℕ) → length xs ≡ w + 1 → length ys ≡ w → set (ys ++ drop w xs) w a ≡ ys ++ (a ∷ [])
+written : (w : ℕ) (xs ys : List ℕ) (a : ℕ) → length xs ≡ w + 1 → length ys ≡ w → set (ys ++ drop w xs) w a ≡ ys ++ (a ∷ [])
 written w xs ys a h l =
     let p : set (ys ++ drop w xs) w a ≡ ys ++ set (drop w xs) (w - w) a = set-append_right ys (drop w xs) w w a l (omega arith) in
     let b = drop_more xs w 0 (omega arith) in
     let e : drop (w + 1) xs ≡ [] = drop_all (w + 1) xs (omega arith) in
     let m : w - w ≡ 0 = omega arith in
     rw (p, m, b, e)
+
+pub part_written : (w at s n : ℕ) (xs ys : List ℕ) (a : ℕ) → s ≡ stride w → n ≡ w → length ys ≡ w → at + stride w ≤ length xs
+    → put_mid at s xs (set (put_mid 0 n (take s (drop at xs)) ys) w a) ≡ put_mid at (stride w) xs (ys ++ (a ∷ []))
+part_written w at s n xs ys a e f l room =
+    let long : length (take (w + 1) (drop at xs)) ≡ w + 1 = length-take-le (w + 1) (drop at xs) (omega (arith, length-drop at xs)) in
+    rw (e, f, written w (take (w + 1) (drop at xs)) ys a long l)
+
+-- the first numbers of two rows are the same where `==` says so
+pub same_read : (w n : ℕ) (xs ys : List ℕ) (v : Bool) → n ≡ w → v ≡ pointwise nat_eq (take n xs) (take n ys) → v ≡ same (take w xs) (take w ys)
+same_read w n xs ys v e h = rw e at h ∙ same_rows (take w xs) (take w ys)
 
 -- the i-th fact is read from where it lies
 pub entry_at : (w i : ℕ) (xs : List ℕ) → i < count_in xs → get_or (in_order w xs) i nothing ≡ entry_in w (take (stride w) (drop (start w i) xs))

@@ -5,8 +5,9 @@ mod edits;
 mod layout;
 mod search;
 
-// How a book of facts lies in memory: the number of dimensions, and how many facts it may hold.
-#[derive(Clone, Copy)]
+// How a book of facts lies in memory: the number of dimensions, and how many facts it may hold. The book is a slice lent to each
+// method, the project's form: so that it holds facts (`Holds`) stands in each contract.
+#[derive(Clone, Copy, Debug, PartialEq, Eq)]
 pub struct Book {
     width: usize,
     room: usize,

@@ -2,22 +2,16 @@
 ghost use Rattle.ledger.specs.Promises.{InsertCounts, RemovalCounts, InsertUndone};
 
 // An insert makes one more copy of its fact and leaves the others as many.
-pub fn insert_counts() -> u8
+pub fn insert_counts()
     ensures { InsertCounts }
-{
-    0
-}
+{}
 
 // A removal takes one copy of its fact and leaves the others as many.
-pub fn removal_counts() -> u8
+pub fn removal_counts()
     ensures { RemovalCounts }
-{
-    0
-}
+{}
 
 // A removal straight after the insert of its fact undoes it.
-pub fn insert_undone() -> u8
+pub fn insert_undone()
     ensures { InsertUndone }
-{
-    0
-}
+{}

@@ -1,5 +1,5 @@
 -- Refusals by number and place, and replies as text. Assumes nothing: these are definitions.
-use Rattle.std.specs.Prelude.{ℕ, ◌+◌, List, ◌++◌, codes, decimal}
+use Rattle.std.specs.Prelude.{ℕ, ◌+◌, List, ◌++◌, Ok, Err, Result, codes, decimal}
 use Rattle.replies.specs.declared.Refusal.{Refusal}
 use Rattle.replies.specs.declared.Refusal.TheVariants.{NoDimensions, BadDimension, BadTable, BadTableLevel, BadGroup, NoLevel, NoRoom, BadFact, NoSuchFact, AlreadyKept, FinestStays, NotKept, LedgerFull, TableFull, AllKept, BadChoice, TooManyGroups}
 use Rattle.replies.specs.declared.Reply.{Reply}
@@ -53,3 +53,12 @@ abbrev pub reply_text : Reply → List ℕ
 reply_text Done = codes "done"
 reply_text (Shown n) = codes "work " ++ decimal n
 reply_text (Refused r) = refusal_text r
+
+-- what is told of a deed, and of a question
+abbrev pub of_deed : Result Unit Refusal → Reply
+of_deed (Ok done) = Done
+of_deed (Err r) = Refused r
+
+abbrev pub of_question : Result ℕ Refusal → Reply
+of_question (Ok work) = Shown work
+of_question (Err r) = Refused r

@@ -2,7 +2,7 @@
 #![tactic(auto)]
 
 ghost use Rattle.std.specs.Prelude.{◌≡◌, Some};
-ghost use Rattle.replies.specs.Replies.{number, place, refusal_text, reply_text};
+ghost use Rattle.replies.specs.Replies.{number, place, refusal_text, reply_text, of_deed, of_question};
 
 use std::fmt;
 
@@ -107,7 +107,8 @@ impl fmt::Display for Refusal {
     }
 }
 
-// The answer to a deed.
+// What is told of a deed or a question, as a line says it. It has three outcomes, and so no Result's shape: deeds and questions answer
+// by a Result each, and become this to be printed.
 #[derive(Clone, Copy, PartialEq, Eq, Debug)]
 pub enum Reply {
     // It is done.
@@ -116,6 +117,28 @@ pub enum Reply {
     Shown(usize),
     // It is refused, and nothing has changed.
     Refused(Refusal),
+}
+
+impl From<Result<(), Refusal>> for Reply {
+    ghost from_gives = { λ told reply. reply ≡ of_deed told };
+
+    fn from(told: Result<(), Refusal>) -> Reply {
+        match told {
+            Ok(()) => Reply::Done,
+            Err(refusal) => Reply::Refused(refusal),
+        }
+    }
+}
+
+impl From<Result<usize, Refusal>> for Reply {
+    ghost from_gives = { λ told reply. reply ≡ of_question told };
+
+    fn from(told: Result<usize, Refusal>) -> Reply {
+        match told {
+            Ok(work) => Reply::Shown(work),
+            Err(refusal) => Reply::Refused(refusal),
+        }
+    }
 }
 
 impl fmt::Display for Reply {

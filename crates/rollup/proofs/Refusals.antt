@@ -1,13 +1,15 @@
 -- What is refused first, case by case. Assumes nothing.
-use Rattle.std.proofs.Common.{◌≡◌, ℕ, zero, suc, ◌+◌, ◌<◌, ◌≤◌, Bool, true, false, leb, ◌⊎◌, length, get_or, Some, None, refl, ap, inl, inr, arith}
+use Rattle.std.proofs.Common.{◌≡◌, ℕ, zero, suc, ◌+◌, ◌<◌, ◌≤◌, Bool, true, false, leb, ◌⊎◌, length, get_or, Ok, Err, Some, None, Option, sym, refl, ap, inl, inr, arith}
+use Rattle.std.specs.Option.{MatchOption}
 use Rattle.std.proofs.lemmas.Bool.{cases_lt, le-leb, lt-leb, lt-ltb, le-ltb, and_from, and_left, and_right}
 use Rattle.hierarchy.specs.Dimensions.{Dims, Row}
 use Rattle.hierarchy.specs.Reading.{dims_in, dims_refusal, first_missing}
 use Rattle.replies.specs.declared.Refusal.{Refusal}
 use Rattle.replies.specs.declared.Refusal.TheVariants.{BadTable, BadTableLevel, BadGroup, NoRoom}
+use Rattle.replies.specs.Replies.{of_question}
 use Rattle.hierarchy.proofs.Scans.{some_none}
 use Rattle.summary.specs.Memory.{start, count_in, table_in, bad, AllGood, FirstBad}
-use Rattle.rollup.specs.Entry.{first_from, has_groups, most_groups, table_refusal, reach_refusal, room_refusal, roll_refusal}
+use Rattle.rollup.specs.Entry.{first_from, has_groups, most_groups, table_refusal, reach_refusal, room_refusal, roll_refusal, roll_reply, rolled_over, roll_out}
 
 -- what passes a test first
 module _ (f : ℕ → Bool) where
@@ -24,6 +26,13 @@ module _ (f : ℕ → Bool) where
         | inl l ↦ rw (h i (omega arith) l) (first_some (suc i) k n (omega arith) (omega arith) t (λ j p q. h j (omega arith) q))
         | inr l ↦ let e : i ≡ n = omega (arith, l) in let g : f i ≡ true = rw e t in rw g (ap Some e)
       ]
+
+  -- what a search from the start of a range finds
+  pub first_found : (n k : ℕ) (r : Option ℕ) → n ≡ k
+      → MatchOption r ((j : ℕ) → 0 ≤ j → j < n → f j ≡ false) (λ i. (0 ≤ i) × (i < n) × (f i ≡ true) × ((j : ℕ) → 0 ≤ j → j < i → f j ≡ false))
+      → r ≡ first_from f 0 k
+  first_found n k None e h = sym (first_none 0 k (λ j a b. h j a (omega arith)))
+  first_found n k (Some i) e h = sym (first_some 0 k i h.0 (omega (arith, h.1)) h.2 h.3)
 
   pub none_first : (i k : ℕ) → first_from f i k ≡ None → (j : ℕ) → i ≤ j → j < i + k → f j ≡ false
   unfolding first_from
@@ -109,3 +118,12 @@ room_of w from n k e h = let g : leb (start w (count_in w from)) n ≡ true = rw
 pub no_room_of : (w : ℕ) (from : Row) (n k : ℕ) → k ≡ count_in w from → leb (start w k) n ≡ false → room_refusal w from n ≡ Some (NoRoom n)
 unfolding room_refusal
 no_room_of w from n k e h = let g : leb (start w (count_in w from)) n ≡ false = rw e at h in rw g
+
+-- what is told, and what the row holds then
+pub refused : (sides from to out : Row) (e : Refusal) → roll_refusal sides from to (length out) ≡ Some e
+    → (of_question (Err e) ≡ roll_reply sides from to (length out)) × (out ≡ roll_out sides from to out)
+refused sides from to out e h = (rw h, rw h)
+
+pub rolled_up : (sides from to out : Row) (ss : Dims) (k : ℕ) → roll_refusal sides from to (length out) ≡ None → ss ≡ dims_in sides
+    → k ≡ count_in (length ss) from → (of_question (Ok k) ≡ roll_reply sides from to (length out)) × (rolled_over ss from to out ≡ roll_out sides from to out)
+rolled_up sides from to out ss k h is e = (rw (h, e, is), rw (h, is))

@@ -3,14 +3,13 @@
 
 ghost use Rattle.std.specs.Prelude.{◌≡◌, ◌<◌, ◌≤◌, length, Some, None, Ok, Err};
 ghost use Rattle.hierarchy.specs.Dimensions.{four};
-ghost use Rattle.hierarchy.specs.Reading.{dims_in};
 ghost use Rattle.hierarchy.specs.Views.{dims_of};
+ghost use Rattle.replies.specs.Replies.{of_question};
 ghost use Rattle.summary.specs.Memory.{count_in, levels_in, table_in, Sound, AllGood};
-ghost use Rattle.rollup.specs.Entry.{first_from, table_refusal, out_of_reach, reach_refusal, roll_refusal, roll_reply, roll_out, rolled_over, ShownRight};
+ghost use Rattle.rollup.specs.Entry.{table_refusal, out_of_reach, reach_refusal, roll_reply, roll_out, ShownRight};
 
-use hierarchy::levels::methods::padded;
 use hierarchy::{Dimensions, Levels};
-use replies::{Refusal, Reply};
+use replies::Refusal;
 use summary::Shape;
 
 // No lent table has more groups.
@@ -32,10 +31,10 @@ pub fn check(dims: &Dimensions, room: usize, row: &[u64]) -> Result<usize, Refus
     if groups > room || !shape.fits(row.len(), groups) {
         return Err(Refusal::BadTable(width));
     }
-    match shape.first_bad_group(row) {
-        Some(group) => Err(Refusal::BadGroup(group)),
-        None => Ok(groups),
+    if let Some(group) = shape.first_bad_group(row) {
+        return Err(Refusal::BadGroup(group));
     }
+    Ok(groups)
 }
 
 // Whether the level in a dimension is missing, not there, or finer than that of the table given.
@@ -46,35 +45,23 @@ fn is_out_of_reach(dims: &Dimensions, from: &[u64], to: &[u64], i: usize) -> boo
     i >= to.len() || to[i] >= dims.levels_in(i) as u64 || to[i] < from[i]
 }
 
-// The first dimension whose level is out of reach.
-fn first_out_of_reach(dims: &Dimensions, from: &[u64], to: &[u64]) -> Option<usize>
-    requires { length (dims_of dims.now) ≤ length from.now }
-    ensures { result ≡ first_from (out_of_reach (dims_of dims.now) from.now to.now) 0 (length (dims_of dims.now)) }
-{
-    for i in 0..dims.width() {
-        if is_out_of_reach(dims, from, to, i) {
-            return Some(i);
-        }
-    }
-    None
-}
-
 // The levels at which the table of a row can be shown.
 fn levels_above(dims: &Dimensions, from: &[u64], to: &[u64]) -> Result<Levels, Refusal>
     requires { length (dims_of dims.now) ≤ length from.now }
     ensures { elim result [ Ok l ↦ (reach_refusal (dims_of dims.now) from.now to.now ≡ None) × (l.at ≡ four (levels_in (length (dims_of dims.now)) to.now)) | Err e ↦ reach_refusal (dims_of dims.now) from.now to.now ≡ Some e ] }
 {
-    match first_out_of_reach(dims, from, to) {
-        Some(dimension) => Err(Refusal::NoLevel(dimension)),
-        None => Ok(Levels {
-            at: padded(to, dims.width()),
-        }),
+    let bad = (0..dims.width()).find(|&i| is_out_of_reach(dims, from, to, i));
+    if let Some(dimension) = bad {
+        return Err(Refusal::NoLevel(dimension));
     }
+    Ok(Levels::front(to, dims.width()))
 }
 
-// All tests come before the first write.
-fn roll_into(sides: &[u64], from: &[u64], to: &[u64], out: &mut [u64]) -> Result<usize, Refusal>
-    ensures { elim result [ Ok n ↦ (roll_refusal sides.now from.now to.now (length out.old) ≡ None) × (n ≡ count_in (length (dims_in sides.now)) from.now) × (out.new ≡ rolled_over (dims_in sides.now) from.now to.now out.old) | Err e ↦ (roll_refusal sides.now from.now to.now (length out.old) ≡ Some e) × (out.new ≡ out.old) ] }
+// Rolls the table of a row up to levels into another row, and tells how many groups were looked at. What lies behind the groups stays,
+// and a refusal leaves all as it was: all tests come before the first write.
+pub fn roll(sides: &[u64], from: &[u64], to: &[u64], out: &mut [u64]) -> Result<usize, Refusal>
+    ensures told { of_question result ≡ roll_reply sides.now from.now to.now (length out.old) }
+    ensures after { out.new ≡ roll_out sides.now from.now to.now out.old }
 {
     let dims = Dimensions::read(sides)?;
     let groups = check(&dims, GROUPS, from)?;
@@ -87,20 +74,7 @@ fn roll_into(sides: &[u64], from: &[u64], to: &[u64], out: &mut [u64]) -> Result
     Ok(groups)
 }
 
-// Rolls the table of a row up to levels into another row. What lies behind the groups stays, and a refusal leaves all as it was.
-pub fn roll(sides: &[u64], from: &[u64], to: &[u64], out: &mut [u64]) -> Reply
-    ensures told { result ≡ roll_reply sides.now from.now to.now (length out.old) }
-    ensures after { out.new ≡ roll_out sides.now from.now to.now out.old }
-{
-    match roll_into(sides, from, to, out) {
-        Ok(groups) => Reply::Shown(groups),
-        Err(refusal) => Reply::Refused(refusal),
-    }
-}
-
 // A lent table of facts that is rolled up and not refused is shown as the table of these facts.
-pub fn shown_right() -> u8
+pub fn shown_right()
     ensures { ShownRight }
-{
-    0
-}
+{}

@@ -1,8 +1,12 @@
 -- Facts one behind the other: the first that is none, and the table of all. Assumes nothing.
-use Rattle.std.proofs.Common.{◌≡◌, ℕ, zero, suc, ◌+◌, ◌-◌, ◌*◌, ◌/◌, ◌%◌, ◌^◌, ◌<◌, ◌≤◌, Bool, true, false, cond, ◌||◌, eqb, ltb, List, [], ◌∷◌, ◌++◌, length, get_or, take, drop, Some, None, Option, sym, refl, ap, ◌∙◌, subst, mul-le-mul_left, mul-zero, add-one, arith}
-use native.Mathlib.Nat.{mul-div-le}
-use Rattle.std.proofs.lemmas.List.{take_all, drop-drop}
-use Rattle.std.proofs.lemmas.Bool.{cond_both, ltb-false}
+use Rattle.std.proofs.Common.{◌≡◌, ℕ, zero, suc, ◌+◌, ◌-◌, ◌*◌, ◌/◌, ◌%◌, ◌^◌, ◌<◌, ◌≤◌, min, Bool, true, false, cond, ◌||◌, eqb, ltb, List, [], ◌∷◌, ◌++◌, length, get_or, take, drop, Some, None, Option, sym, refl, ap, ◌∙◌, ⊎_elim, subst, mul_comm, mul-le-mul_left, mul-zero, add-one, arith, append-nil, length-append, length-drop}
+use denote.Ref.{Bor}
+use Rattle.std.specs.declared.slice.Chunks.{Chunks}
+use Rattle.std.specs.Slice.Iter.{chunks_rest, chunks_size, chunks_steps}
+use Rattle.std.proofs.Math.Seq.{take-append_seam, drop-append_seam}
+use Rattle.std.proofs.lemmas.Grind.{div_ceil_times}
+use Rattle.std.proofs.lemmas.List.{take_all, drop_all, drop-drop}
+use Rattle.std.proofs.lemmas.Bool.{cases_lt, ltb-false, ne_eqb}
 use Rattle.hierarchy.specs.Dimensions.{Dims, Row, four}
 use Rattle.hierarchy.specs.Levels.{finest}
 use Rattle.hierarchy.specs.Parts.{parts}
@@ -32,8 +36,55 @@ use Rattle.totals.proofs.Theory.{table_none, table_more}
 use Rattle.selection.specs.Entry.{first_of, refused_if, fact_count, facts_in, facts_refusal, limits_refusal, groups_refusal, over_refusal, Gathered}
 
 -- ---- how many, and where
-pub within : (n s i : ℕ) → i ≤ n / s → s * i ≤ n
-within n s i h = omega (arith, mul-le-mul_left s h, mul-div-le n s)
+-- the count rounds up
+rounds_up : (m : ℕ) → cond (eqb m 0) 0 1 ≡ min 1 m
+rounds_up zero = refl
+rounds_up (suc m) = rw (ne_eqb (suc m) 0 (λ e. omega arith)) (omega arith)
+
+pub count_is : (ss : Dims) (xs : Row) → fact_count ss xs ≡ length xs / (length ss + 1) + min 1 (length xs % (length ss + 1))
+count_is ss xs = ap (λ n. length xs / (length ss + 1) + n) (rounds_up (length xs % (length ss + 1)))
+
+count_bounds : (ss : Dims) (xs : Row) → (length xs ≤ fact_count ss xs * (length ss + 1)) × (fact_count ss xs * (length ss + 1) < length xs + (length ss + 1))
+count_bounds ss xs = rw (count_is ss xs) (div_ceil_times (length xs) (length ss + 1) (omega arith))
+
+above : (n s k i : ℕ) → n ≤ k * s → s * i < n → i < k
+above n s k i most h = ⊎_elim (λ l. l) (λ l. absurd (omega (arith, mul-le-mul_left s l, mul_comm s k))) (cases_lt i k)
+
+at_most : (n s k i : ℕ) → k * s < n + s → n ≤ s * i → k ≤ i
+at_most n s k i less h = ⊎_elim (λ l. absurd (omega (arith, mul-le-mul_left s (let m : suc i ≤ k = omega arith in m), next_place s i, mul_comm s k))) (λ l. l) (cases_lt i k)
+
+-- a part begins before the end just where it is one of them
+pub count_above : (ss : Dims) (xs : Row) (i : ℕ) → (length ss + 1) * i < length xs → i < fact_count ss xs
+count_above ss xs i h = above (length xs) (length ss + 1) (fact_count ss xs) i (count_bounds ss xs).0 h
+
+pub count_most : (ss : Dims) (xs : Row) (i : ℕ) → length xs ≤ (length ss + 1) * i → fact_count ss xs ≤ i
+count_most ss xs i h = at_most (length xs) (length ss + 1) (fact_count ss xs) i (count_bounds ss xs).1 h
+
+-- the part that comes off the front, and what is left
+part_off : (s : ℕ) (x more rest : Row) → rest ≡ x ++ more → length x ≡ min s (length rest) → (x ≡ take s rest) × (more ≡ drop s rest)
+part_off s x [] rest e l =
+    let whole : rest ≡ x = e ∙ append-nil x in
+    let short : length rest ≤ s = omega (arith, ap length whole) in
+    (sym (take_all s rest short ∙ whole), sym (drop_all s rest short))
+part_off s x (y ∷ more) rest e l =
+    let full : length x ≡ s = omega (arith, ap length e, length-append x (y ∷ more)) in
+    (rw (e, ← full) (sym (take-append_seam x (y ∷ more))), rw (e, ← full) (sym (drop-append_seam x (y ∷ more))))
+
+-- what is left to a loop over the parts after i turns, and one turn
+abbrev pub Left : ℕ → Row → ℕ → Chunks ℕ → Type 0
+Left s xs i it = (chunks_size it ≡ s) × (chunks_rest it ≡ drop (s * i) xs)
+
+pub left_more : (s : ℕ) (xs : Row) (i : ℕ) (from to : Chunks ℕ) (r : Option (Bor Row)) (x : Bor Row) → Left s xs i from → r ≡ Some x → chunks_steps from r to
+    → (x.now ≡ take s (drop (s * i) xs)) × Left s xs (i + 1) to × (s * i < length xs)
+left_more s xs i from to r x left is steps =
+    let more = rw is at steps in
+    let off = part_off s x.now (chunks_rest to) (chunks_rest from) more.1.0 (more.1.1 ∙ ap (λ n. min n (length (chunks_rest from))) left.0) in
+    let next : drop s (drop (s * i) xs) ≡ drop (s * (i + 1)) xs =
+    drop-drop s (s * i) xs ∙ ap (λ n. drop n xs) (omega (arith, next_place s i, ap (λ n. s * n) (add-one i))) in
+    (off.0 ∙ ap (take s) left.1, (more.0 ∙ left.0, off.1 ∙ (ap (drop s) left.1 ∙ next)), omega (arith, more.1.2, ap length left.1, length-drop (s * i) xs))
+
+pub left_none : (s : ℕ) (xs : Row) (i : ℕ) (from to : Chunks ℕ) (r : Option (Bor Row)) → Left s xs i from → r ≡ None → chunks_steps from r to → length xs ≤ s * i
+left_none s xs i from to r left is steps = let done = rw is at steps in omega (arith, done.1.0, ap length left.1, length-drop (s * i) xs)
 
 -- ---- the first that is none
 first_none : (a b : Option Refusal) → first_of a b ≡ None → (a ≡ None) × (b ≡ None)
@@ -123,12 +174,6 @@ cells_wide w ss k xs wide good j d h =
 cells_filled : (ss : Dims) (k : ℕ) (xs : Row) → NoneEmpty (fact_cells ss k xs)
 cells_filled ss k xs j d h =
     let n = parts_length (fact_cell ss) (length ss + 1) k xs in rw (part_at (fact_cell ss) (length ss + 1) j k xs d (omega arith)) (omega arith)
-
--- where the i-th fact begins
-pub count_within : (ss : Dims) (xs : Row) (i : ℕ) → i < fact_count ss xs → (length ss + 1) * i ≤ length xs
-count_within ss xs i h =
-    let one_more : cond (eqb (length xs % (length ss + 1)) 0) 0 1 ≤ 1 = cond_both (eqb (length xs % (length ss + 1)) 0) 0 1 (λ n. n ≤ 1) (λ e. omega arith) (λ e. omega arith) in
-    within (length xs) (length ss + 1) i (omega arith)
 
 -- a row at the finest levels, with no group yet
 pub gather_start : (w : ℕ) (ss : Dims) (xs ys : List ℕ) (l : Levels) → w ≡ length ss → w ≤ 4 → l.at ≡ 0 ∷ 0 ∷ 0 ∷ 0 ∷ [] → w < length xs

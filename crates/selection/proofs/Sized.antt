@@ -1,28 +1,18 @@
 -- How many groups a row has once a table was rolled up into it. Assumes nothing.
-use Rattle.std.proofs.Common.{◌≡◌, ℕ, ◌^◌, ◌<◌, ◌≤◌, List, length, drop, sym, ap, ◌∙◌, arith, length-take}
+use Rattle.std.proofs.Common.{◌≡◌, ℕ, ◌^◌, ◌<◌, List, length, sym, ap, ◌∙◌, arith}
 use Rattle.hierarchy.specs.Dimensions.{Dims}
 use Rattle.hierarchy.specs.Facts.{Entry}
 use Rattle.hierarchy.specs.Levels.{finest, total_levels, nth_levels}
-use Rattle.hierarchy.specs.Views.{levels_of}
-use Rattle.hierarchy.specs.declared.levels.Levels.{Levels}
-use Rattle.summary.specs.Memory.{start, count_in, table_in, levels_in, row_over, rolled_in}
+use Rattle.summary.specs.Memory.{count_in, table_in, levels_in}
 use Rattle.totals.specs.Cost.{size}
 use Rattle.totals.specs.Tables.{table}
 use Rattle.hierarchy.proofs.Laws.{no_coarser_finest}
-use Rattle.summary.proofs.Holdings.{count_row}
 use Rattle.totals.proofs.Put.{rolled_length}
 use Rattle.summary.proofs.Rows.{table_length}
 use Rattle.totals.proofs.Theory.{rolled_right}
 use Rattle.greedy.specs.Turns.{SizesAre, Counted}
 use Rattle.selection.specs.Rolling.{RolledSizes}
 use Rattle.greedy.proofs.Listed.{nth_length}
-
-pub rolled_count : (w : ℕ) (ss : Dims) (l : Levels) (xs ys zs : List ℕ) (n : ℕ) → w ≡ length ss → w ≤ 4 → length l.at ≡ 4
-    → zs ≡ row_over w (levels_of w l) (rolled_in w ss (levels_of w l) xs) ys → n ≡ count_in w zs
-    → n ≡ length (rolled_in (length ss) ss (levels_of (length ss) l) xs)
-rolled_count w ss l xs ys zs n wide few four rolls is =
-    let t = rolled_in w ss (levels_of w l) xs in
-    rw (← wide) (is ∙ (ap (count_in w) rolls ∙ count_row w (levels_of w l) (omega (arith, length-take w l.at)) t (drop (start w (length t)) ys)))
 
 -- ---- sizes of all levels
 pub sizes_of_facts : (ss : Dims) (xs zs : List ℕ) (es : List Entry) → RolledSizes ss xs zs → levels_in (length ss) xs ≡ finest ss

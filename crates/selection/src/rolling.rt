@@ -1,12 +1,17 @@
 // The sizes of all levels, counted by rolling the finest table up.
-ghost use Rattle.std.specs.Prelude.{◌≡◌, ◌-◌, ◌^◌, ◌<◌, ◌≤◌, [], length, IfOk};
-ghost use Rattle.hierarchy.specs.Levels.{finest, total_levels, nth_levels};
+ghost use Rattle.std.specs.Prelude.{◌≡◌, ◌^◌, ◌<◌, ◌≤◌, List, length, IfOk, vec_len};
+ghost use Rattle.hierarchy.specs.Facts.{Entry};
+ghost use Rattle.hierarchy.specs.Levels.{finest};
 ghost use Rattle.hierarchy.specs.Views.{dims_of, levels_of};
+ghost use Rattle.totals.specs.Cost.{size};
 ghost use Rattle.totals.specs.Counts.{total};
-ghost use Rattle.summary.specs.Memory.{table_in, levels_in, rolled_in, Sound};
-ghost use Rattle.selection.specs.Rolling.{RolledSizes, Front};
+ghost use Rattle.totals.specs.Tables.{table};
+ghost use Rattle.summary.specs.Memory.{count_in, table_in, levels_in, rolled_in, Sound, sound_prop};
+ghost use Rattle.greedy.specs.Turns.{TurnsAre};
+ghost use Rattle.selection.specs.Rolling.{RolledSizes};
 
-use greedy::by_sizes::filled;
+use greedy::by_sizes::all_levels;
+use greedy::{Turn, choose_by_sizes};
 use hierarchy::{Dimensions, Levels};
 use std::alloc::{AllocError, Global};
 use summary::Shape;
@@ -24,57 +29,45 @@ fn size_at(dims: &Dimensions, table: &[u64], levels: Levels, row: &mut [u64]) ->
     shape.count(row) as u64
 }
 
-// Rolls the finest table up where the last dimension starts again. Until then only that dimension gets coarser, so that the
-// row is fine enough already.
-fn roll_front(dims: &Dimensions, base: &[u64], i: usize, levels: Levels, front: &mut [u64])
-    requires sound { Sound (length (dims_of dims.now)) base.now }
-    requires room { length base.now ≤ length front.old }
-    requires count_fits { (total (table_in (length (dims_of dims.now)) base.now)).count < 2 ^ 64 }
-    requires sum_fits { (total (table_in (length (dims_of dims.now)) base.now)).sum < 2 ^ 64 }
-    requires there { i < total_levels (dims_of dims.now) }
-    requires nth { levels_of (length (dims_of dims.now)) levels ≡ nth_levels (dims_of dims.now) i }
-    requires before { 0 < i → Front (dims_of dims.now) base.now front.old (i - 1) }
-    ensures { Front (dims_of dims.now) base.now front.new i }
-{
-    let last = dims.width() - 1;
-    if levels.at[last] == 0 {
-        Shape::of(dims).roll(dims, base, levels, front);
-    }
+// A table at the finest levels, whose counts and sums fit.
+#[derive(Clone, Copy)]
+pub struct Finest<'a> {
+    pub dims: &'a Dimensions,
+    pub row: &'a [u64],
+    pub ghost sound: { Sound (length (dims_of dims.now)) row.now } by { sound_prop (length (dims_of dims.now)) row.now },
+    pub ghost levels: { levels_in (length (dims_of dims.now)) row.now ≡ finest (dims_of dims.now) },
+    pub ghost count_fits: { (total (table_in (length (dims_of dims.now)) row.now)).count < 2 ^ 64 },
+    pub ghost sum_fits: { (total (table_in (length (dims_of dims.now)) row.now)).sum < 2 ^ 64 },
 }
 
-// The sizes of all levels in their order, each written behind the last.
-fn write_sizes(
-    dims: &Dimensions,
-    base: &[u64],
-    front: &mut [u64],
-    row: &mut [u64],
-    mut sizes: Vec<u64>,
-) -> Result<Vec<u64>, AllocError>
-    requires sound { Sound (length (dims_of dims.now)) base.now }
-    requires levels { levels_in (length (dims_of dims.now)) base.now ≡ finest (dims_of dims.now) }
-    requires room { (length base.now ≤ length front.old) × (length front.old ≤ length row.old) }
-    requires count_fits { (total (table_in (length (dims_of dims.now)) base.now)).count < 2 ^ 64 }
-    requires sum_fits { (total (table_in (length (dims_of dims.now)) base.now)).sum < 2 ^ 64 }
-    requires none { sizes.items ≡ [] }
-    ensures { IfOk result (λ v. RolledSizes (dims_of dims.now) base.now v.items) }
-{
-    for i in 0..Levels::count(dims) {
-        let levels = Levels::nth(dims, i).unwrap();
-        roll_front(dims, base, i, levels, front);
-        sizes.push(size_at(dims, front, levels, row))?;
+impl Finest<'_> {
+    // The sizes of all levels in their order. The front is rolled up anew where the last dimension starts again: until then only
+    // that dimension gets coarser, so that the front is fine enough already.
+    pub fn sizes(self, heap: Global) -> Result<Vec<u64>, AllocError>
+        ensures { IfOk result (λ v. RolledSizes (dims_of self.entry.dims.now) self.entry.row.now v.items) }
+    {
+        let dims = self.dims;
+        let shape = Shape::of(dims);
+        let last = dims.width() - 1;
+        let all = all_levels(heap, dims)?;
+        let mut front = vec![in heap; 0; self.row.len()]?;
+        let mut row = vec![in heap; 0; self.row.len()]?;
+        let mut sizes = Vec::new(heap);
+        for levels in all.iter() {
+            if levels.at[last] == 0 {
+                shape.roll(dims, self.row, *levels, &mut front);
+            }
+            sizes.push(size_at(dims, &front, *levels, &mut row))?;
+        }
+        Ok(sizes)
     }
-    Ok(sizes)
-}
 
-// The sizes of all levels in their order, from the table at the finest.
-pub fn sizes(heap: Global, dims: &Dimensions, base: &[u64]) -> Result<Vec<u64>, AllocError>
-    requires sound { Sound (length (dims_of dims.now)) base.now }
-    requires levels { levels_in (length (dims_of dims.now)) base.now ≡ finest (dims_of dims.now) }
-    requires count_fits { (total (table_in (length (dims_of dims.now)) base.now)).count < 2 ^ 64 }
-    requires sum_fits { (total (table_in (length (dims_of dims.now)) base.now)).sum < 2 ^ 64 }
-    ensures { IfOk result (λ v. RolledSizes (dims_of dims.now) base.now v.items) }
-{
-    let mut front = filled(heap, 0, base.len())?;
-    let mut row = filled(heap, 0, base.len())?;
-    write_sizes(dims, base, &mut front, &mut row, Vec::new(heap))
+    // The choice of n.
+    pub(crate) fn choose(self, heap: Global, n: u64) -> Result<Vec<Turn>, AllocError>
+        requires { count_in (length (dims_of self.dims.now)) self.row.now < 2 ^ 32 }
+        ensures { IfOk result (λ v. (vec_len v ≡ n) × ((es : List Entry) → table_in (length (dims_of self.entry.dims.now)) self.entry.row.now ≡ table (dims_of self.entry.dims.now) (finest (dims_of self.entry.dims.now)) es → TurnsAre (dims_of self.entry.dims.now) (size (dims_of self.entry.dims.now) es) v.items)) }
+    {
+        let sizes = self.sizes(heap)?;
+        choose_by_sizes(heap, self.dims, &sizes, n as usize)
+    }
 }

@@ -5,7 +5,6 @@ use Rattle.hierarchy.specs.Dimensions.{Row}
 use Rattle.hierarchy.specs.Levels.{are_levels}
 use Rattle.hierarchy.specs.Reading.{levels_in}
 use Rattle.replies.specs.declared.Refusal.{Refusal}
-use Rattle.replies.specs.declared.Reply.{Reply}
 use Rattle.hierarchy.proofs.Laws.{levels_length}
 use Rattle.hierarchy.proofs.Parts.{place_le}
 use Rattle.hierarchy.proofs.Theory.{levels_read}
@@ -14,8 +13,8 @@ use Rattle.summary.specs.Memory.{start, stride, table_in, row_over, Wide, Whole}
 use Rattle.summary.proofs.Holdings.{table_row, count_row, length_row}
 use Rattle.totals.proofs.Put.{rolled_length}
 use Rattle.ledger.specs.Book.{facts_in}
-use Rattle.model.specs.House.{House, Told, ask, answer, refusal, refused, shown, source, told}
-use Rattle.storage.specs.Memory.{sides, wide, limits, house_in, Memory, reply_of, row_after}
+use Rattle.model.specs.House.{Told, ask, answer, refusal, refused, shown, source, told}
+use Rattle.storage.specs.Memory.{sides, wide, limits, house_in, Memory, row_after}
 use Rattle.storage.specs.declared.layout.Layout.{Layout}
 use Rattle.model.proofs.Laws.{table_wide}
 use Rattle.model.proofs.Sound.{sound_front, sound_good}
@@ -61,7 +60,7 @@ module _ (l : Layout) (book tables : List ℕ) (m : Memory l book tables) (xs : 
       omega (arith, place_le (stride (wide l)) (length t) (length s.cells) few, (ask_done (sides l) (limits l) (house_in l book tables) xs n accepted).1)
 
   -- a row that holds the answer holds a table
-  pub row_shown : (out out₁ : List ℕ) → length out ≡ n → out₁ ≡ row_over (length (levels_in (sides l) xs)) (levels_in (sides l) xs) t out
+  row_shown : (out out₁ : List ℕ) → length out ≡ n → out₁ ≡ row_over (length (levels_in (sides l) xs)) (levels_in (sides l) xs) t out
       → (table_in (wide l) out₁ ≡ t) × Whole (wide l) out₁
   row_shown out out₁ long is =
       let e : out₁ ≡ row_over (wide l) (levels_in (sides l) xs) t out = is ∙ ap (λ w. row_over w (levels_in (sides l) xs) t out) levels_long in
@@ -71,16 +70,10 @@ module _ (l : Layout) (book tables : List ℕ) (m : Memory l book tables) (xs : 
       let whole = length_row (wide l) (levels_in (sides l) xs) levels_long t rest is_wide in
       (ap (table_in (wide l)) e ∙ cells, rw e (rw (count, whole) (omega arith)))
 
--- what is asked of lent memory is asked of the memory that is owned
-pub ask_owned : (l : Layout) (book tables bs ts : List ℕ) (xs : Row) (out out₁ : List ℕ) (r : Reply) → bs ≡ book → ts ≡ tables → Memory l book tables
-    → r ≡ reply_of (told (sides l) (limits l) (house_in l bs ts) (ask xs (length out)))
-    → out₁ ≡ row_after (levels_in (sides l) xs) (told (sides l) (limits l) (house_in l bs ts) (ask xs (length out))) out
-    → (r ≡ reply_of (told (sides l) (limits l) (house_in l book tables) (ask xs (length out))))
-    × (out₁ ≡ row_after (levels_in (sides l) xs) (told (sides l) (limits l) (house_in l book tables) (ask xs (length out))) out)
-    × ((t : Table) (n : ℕ) → told (sides l) (limits l) (house_in l book tables) (ask xs (length out)) ≡ shown t n
-    → (table_in (wide l) out₁ ≡ t) × Whole (wide l) out₁)
-ask_owned l book tables bs ts xs out out₁ r a b m reply row =
-    let e : house_in l bs ts ≡ house_in l book tables = ap (λ (ys : List ℕ). house_in l ys ts) a ∙ ap (λ (ys : List ℕ). house_in l book ys) b in
-    let reply₁ = reply ∙ ap (λ (h : House). reply_of (told (sides l) (limits l) h (ask xs (length out)))) e in
-    let row₁ = row ∙ ap (λ (h : House). row_after (levels_in (sides l) xs) (told (sides l) (limits l) h (ask xs (length out))) out) e in
-    (reply₁, row₁, λ t n tells. row_shown l book tables m xs (length out) t n tells out out₁ refl (row₁ ∙ ap (λ (d : Told). row_after (levels_in (sides l) xs) d out) tells))
+-- the row of a question, where a table is shown
+pub row_told : {l : Layout} {book tables : List ℕ} (xs : Row) (out : List ℕ) {out₁ : List ℕ} → Memory l book tables
+    → out₁ ≡ row_after (levels_in (sides l) xs) (told (sides l) (limits l) (house_in l book tables) (ask xs (length out))) out
+    → (t : Table) (n : ℕ) → told (sides l) (limits l) (house_in l book tables) (ask xs (length out)) ≡ shown t n
+    → (table_in (wide l) out₁ ≡ t) × Whole (wide l) out₁
+row_told {l} {book} {tables} xs out {out₁} m row t n tells =
+    row_shown l book tables m xs (length out) t n tells out out₁ refl (row ∙ ap (λ (d : Told). row_after (levels_in (sides l) xs) d out) tells)

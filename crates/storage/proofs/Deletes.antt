@@ -7,7 +7,6 @@ use Rattle.hierarchy.specs.Places.{place_at}
 use Rattle.hierarchy.specs.Reading.{fact_refusal, entry_in}
 use Rattle.hierarchy.specs.Views.{entry_of}
 use Rattle.hierarchy.specs.declared.fact.Fact.{Fact}
-use Rattle.replies.specs.declared.Refusal.{Refusal}
 use Rattle.replies.specs.declared.Refusal.TheVariants.{NoSuchFact}
 use Rattle.replies.specs.declared.Reply.TheVariants.{Done}
 use Rattle.hierarchy.proofs.Rows.{is_same}
@@ -71,9 +70,6 @@ module _ (l : Layout) (book tables : List ℕ) (m : Memory l book tables) where
 
   pub few_tables : get_or tables 0 0 ≤ 16
   few_tables = rw (tables_length (wide l) (part_size l) tables) at m.valid.tables
-
-  pub refused_fact : (xs : Row) (r : Refusal) → fact_refusal (sides l) xs ≡ Some r → refusal (sides l) (limits l) (house_in l book tables) (delete xs) ≡ Some r
-  refused_fact xs r h = rw h
 
   module _ (xs : Row) (f : Fact) (read : fact_refusal (sides l) xs ≡ None) (is : entry_of (wide l) f ≡ entry_in (sides l) xs) where
     pub nothing_deleted : false ≡ ltb 0 (copies (entry_of (wide l) f) (facts_in (wide l) book))

@@ -81,9 +81,9 @@ does_done l d book tables book₁ tables₁ m accepted told_of holds facts long 
     }
 
 -- and one that is refused
-pub does_refused : (l : Layout) (d : Deed) (x : Refusal) (book tables : List ℕ) → Memory l book tables
+pub does_refused : {l : Layout} {d : Deed} {x : Refusal} {book tables : List ℕ} → Memory l book tables
     → refusal (sides l) (limits l) (house_in l book tables) d ≡ Some x → Does l d (Refused x) book tables book tables
-does_refused l d x book tables m e =
+does_refused {l} {d} {x} {book} {tables} m e =
     let h = house_in l book tables in
     record {
       reply = sym (ap reply_of (told_refused (sides l) (limits l) h d x e));

@@ -12,7 +12,8 @@ mod moves;
 mod places;
 
 // How the kept tables and the book lie in memory, and with them the dimensions and the room.
-#[derive(Clone, Copy)]
+// Both are lent slices, two parameters of each deed: the project wants that form below `warehouse`.
+#[derive(Clone, Copy, Debug, PartialEq, Eq)]
 pub struct Layout {
     tables: TableLayout,
     book: Book,

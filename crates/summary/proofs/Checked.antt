@@ -1,11 +1,13 @@
 -- Groups that are all good are in order, none is empty, and so many of them fit in 64 bits together. Assumes nothing.
-use Rattle.std.proofs.Common.{◌≡◌, ℕ, zero, suc, ◌-◌, ◌*◌, ◌^◌, ◌<◌, ◌≤◌, true, false, not, ◌&&◌, ◌||◌, eqb, ltb, leb, List, [], ◌∷◌, length, get_or, subst, inl, inr, arith}
+use Rattle.std.proofs.Common.{◌≡◌, ℕ, zero, suc, ◌-◌, ◌*◌, ◌^◌, ◌<◌, ◌≤◌, true, false, not, ◌&&◌, ◌||◌, eqb, ltb, leb, List, [], ◌∷◌, length, get_or, Some, None, Option, subst, inl, inr, arith}
+use Rattle.std.specs.Option.{MatchOption}
 use Rattle.std.proofs.lemmas.List.{get_or_default}
 use Rattle.std.proofs.lemmas.Bool.{or_parts, lt-ltb, not-false, eqb-false, leb-false, cases_lt}
 use Rattle.totals.specs.Tables.{Table, before}
 use Rattle.totals.specs.Counts.{total}
 use Rattle.totals.specs.Promises.{InOrder, NoneEmpty}
-use Rattle.summary.specs.Memory.{table_in, none, Whole, Sound, out_of_bounds, AllGood}
+use Rattle.summary.specs.Memory.{count_in, table_in, none, Whole, Sound, out_of_bounds, bad, AllGood, FirstBad}
+use Rattle.summary.proofs.Rows.{table_length}
 use Rattle.totals.proofs.Order.{before_trans}
 
 -- each comes after the one before: so it comes after all before
@@ -40,6 +42,14 @@ good_none_empty t h i g l =
 
 pub good_sound : (w : ℕ) (xs : List ℕ) → Whole w xs → AllGood (table_in w xs) → Sound w xs
 good_sound w xs a h = record { whole = a; ordered = good_in_order _ h; filled = good_none_empty _ h }
+
+pub first_bad : (w : ℕ) (xs : List ℕ) (n : ℕ) (r : Option ℕ) → n ≡ count_in w xs → Whole w xs
+    → MatchOption r ((k : ℕ) → 0 ≤ k → k < n → bad (table_in w xs) k ≡ false)
+    (λ i. (0 ≤ i) × (i < n) × (bad (table_in w xs) i ≡ true) × ((k : ℕ) → 0 ≤ k → k < i → bad (table_in w xs) k ≡ false))
+    → elim r as (λ x. Type 0) [ Some i ↦ FirstBad (table_in w xs) i | None ↦ Sound w xs × AllGood (table_in w xs) ]
+first_bad w xs n None e a h =
+    let good : AllGood (table_in w xs) = λ k l. h k (omega arith) (omega (arith, table_length w xs)) in (good_sound w xs a good, good)
+first_bad w xs n (Some i) e a h = (omega (arith, h.1, table_length w xs), h.2, λ k l. h.3 k (omega arith) l)
 
 good_bounds : (t : Table) → AllGood t → (i : ℕ) → i < length t → ((get_or t i none).measure.count < 2 ^ 32) × ((get_or t i none).measure.sum < 2 ^ 50)
 good_bounds t h i l =

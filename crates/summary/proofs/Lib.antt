@@ -6,3 +6,4 @@ pub mod Rolls
 pub mod Rows
 pub mod Soundness
 pub mod Spots
+pub mod Walks

@@ -45,7 +45,7 @@ cell_at w i xs h =
     ∙ ap (λ ys. cell_in w (take (stride w) ys)) (drop-drop (stride w * i) (w + 1) xs)
 
 -- a place and two numbers, written one after the other over a part
-pub written : (w : ℕ) (xs ys : List ℕ) (c s : ℕ) → length xs ≡ w + 2 → length ys ≡ w
+written : (w : ℕ) (xs ys : List ℕ) (c s : ℕ) → length xs ≡ w + 2 → length ys ≡ w
     → set (set (ys ++ drop w xs) w c) (w + 1) s ≡ ys ++ (c ∷ (s ∷ []))
 written w xs ys c s h l =
     let a : set (ys ++ drop w xs) w c ≡ ys ++ set (drop w xs) (w - w) c = set-append_right ys (drop w xs) w w c l (omega arith) in
@@ -59,6 +59,12 @@ written w xs ys c s h l =
     set-append_right ys (c ∷ (get_or xs (w + 1) 0 ∷ [])) w (w + 1) s l (omega arith) in
     let i : set (c ∷ (get_or xs (w + 1) 0 ∷ [])) (w + 1 - w) s ≡ c ∷ (s ∷ []) = rw k in
     rw (a, f, g, i)
+
+pub part_written : (w at k n : ℕ) (xs ys : List ℕ) (c s : ℕ) → k ≡ stride w → n ≡ w → length ys ≡ w → at + stride w ≤ length xs
+    → put_mid at k xs (set (set (put_mid 0 n (take k (drop at xs)) ys) w c) (w + 1) s) ≡ put_mid at (stride w) xs (ys ++ (c ∷ (s ∷ [])))
+part_written w at k n xs ys c s e f l room =
+    let long : length (take (w + 2) (drop at xs)) ≡ w + 2 = length-take-le (w + 2) (drop at xs) (omega (arith, length-drop at xs)) in
+    rw (e, f, written w (take (w + 2) (drop at xs)) ys c s long l)
 
 pub table_length : (w : ℕ) (xs : List ℕ) → length (table_in w xs) ≡ count_in w xs
 table_length w xs = parts_length (cell_in w) (stride w) (count_in w xs) (drop (w + 1) xs)

@@ -1,27 +1,40 @@
 -- Where a place stands in a table: what a search by halves goes by, and what put and take_out do there. Assumes nothing.
-use Rattle.std.proofs.Common.{◌≡◌, ℕ, zero, suc, ◌+◌, ◌<◌, ◌≤◌, Bool, true, false, cond, [], ◌∷◌, length, get_or, take, set, sym, refl, ap, ◌∙◌, subst, inl, inr, arith}
+use Rattle.std.proofs.Common.{◌≡◌, ℕ, zero, suc, ◌+◌, ◌<◌, ◌≤◌, Bool, true, false, cond, [], ◌∷◌, length, get_or, set, sym, refl, ap, ◌∙◌, subst, inl, inr, arith}
 use Rattle.std.specs.List.{insert, remove}
-use Rattle.std.proofs.lemmas.Bool.{cases_lt, cases_Bool, lt-ltb, eq-eqb, and_from, or_left, or_right, or_from}
+use Rattle.std.specs.declared.cmp.Ordering.TheVariants.{Less, Equal, Greater}
+use Rattle.std.specs.declared.cmp.Ordering.{Ordering}
+use Rattle.std.specs.Cmp.Lexicographic.{slice_cmp}
+use Rattle.std.specs.Ordering.{nat_cmp, is_lt, is_eq, is_gt}
+use Rattle.std.proofs.lemmas.Cmp.{same_from_slice_cmp}
+use Rattle.std.proofs.lemmas.Bool.Decides.{nat_tests}
+use Rattle.std.proofs.lemmas.Bool.{cases_lt, cases_Bool, or_left, or_right, or_from}
 use Rattle.hierarchy.specs.Dimensions.{Row}
 use Rattle.hierarchy.specs.Levels.{same}
 use Rattle.totals.specs.Tables.{Measure, Cell, Table, join, less, before, put, take_out}
 use Rattle.totals.specs.Counts.{at}
 use Rattle.totals.specs.Promises.{InOrder}
-use Rattle.summary.specs.Memory.{none, held, Stands, WouldStand}
-use Rattle.hierarchy.proofs.Rows.{is_same}
-use Rattle.totals.proofs.Order.{before_irrefl, before_trans, before_not_same, before_not_same_back}
+use Rattle.summary.specs.Memory.{none, Compared, held, Stands, WouldStand}
+use Rattle.hierarchy.proofs.Rows.{is_same, same_is}
+use Rattle.totals.proofs.Order.{before_irrefl, before_trans, before_not_back, before_not_same, before_not_same_back}
 use Rattle.totals.proofs.Put.{put_none, put_same, put_front, put_on, take_out_last, take_out_less, take_out_on, in_order_first, in_order_rest, at_more}
 
--- two rows that are the same up to i: the numbers there decide
-pub differs : (i : ℕ) (xs ys : Row) → i < length xs → i < length ys → take i xs ≡ take i ys → get_or xs i 0 < get_or ys i 0 → before xs ys ≡ true
+-- what the order of slices says of two places
+lesser : (p q : Row) (r : Ordering) → r ≡ slice_cmp nat_cmp p q → is_lt r ≡ before p q
 unfolding before
-differs i [] ys h k e l = absurd (omega arith)
-differs i (x ∷ xs) [] h k e l = absurd (omega arith)
-differs zero (x ∷ xs) (y ∷ ys) h k e l = or_left _ _ (lt-ltb x y l)
-differs (suc i) (x ∷ xs) (y ∷ ys) h k e l =
-    let a : x ≡ y = cc in
-    let b : take i xs ≡ take i ys = cc in
-    or_right _ _ (and_from _ _ (eq-eqb x y a) (differs i xs ys (omega arith) (omega arith) b l))
+lesser = same_from_slice_cmp nat_cmp is_lt before refl (λ _ _. refl) (λ _ _. refl) (λ x y xs ys o h. grind (arith, nat_tests))
+
+greater : (p q : Row) (r : Ordering) → r ≡ slice_cmp nat_cmp p q → is_gt r ≡ before q p
+unfolding before
+greater = same_from_slice_cmp nat_cmp is_gt (λ p q. before q p) refl (λ _ _. refl) (λ _ _. refl) (λ x y xs ys o h. grind (arith, nat_tests))
+
+equal : (p q : Row) (r : Ordering) → r ≡ slice_cmp nat_cmp p q → is_eq r ≡ same p q
+unfolding same
+equal = same_from_slice_cmp nat_cmp is_eq same refl (λ _ _. refl) (λ _ _. refl) (λ x y xs ys o h. grind (arith, nat_tests))
+
+pub compared : (p q : Row) (r : Ordering) → r ≡ slice_cmp nat_cmp p q → Compared p q r
+compared p q Less e = sym (lesser p q Less e)
+compared p q Equal e = same_is p q (sym (equal p q Equal e))
+compared p q Greater e = sym (greater p q Greater e)
 
 pub same_not_before : (p q : Row) → p ≡ q → before p q ≡ false
 same_not_before p q e =
@@ -29,6 +42,11 @@ same_not_before p q e =
       | inl a ↦ absurd (before_irrefl p (subst (λ (r : Row). before p r ≡ true) (sym e) a))
       | inr b ↦ b
     ]
+
+pub behind_is_gt : (p q : Row) (r : Ordering) → Compared p q r → is_gt r ≡ before q p
+behind_is_gt p q Less h = sym (before_not_back p q h)
+behind_is_gt p q Equal h = sym (same_not_before q p (sym h))
+behind_is_gt p q Greater h = sym h
 
 -- what comes before a group that comes before p, and what comes behind one that comes behind p
 pub all_before : (t : Table) (m : ℕ) (p : Row) → InOrder t → m < length t → before (get_or t m none).place p ≡ true

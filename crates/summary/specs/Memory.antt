@@ -4,6 +4,8 @@ use Rattle.std.specs.Prelude.{◌≡◌, ℕ, ◌+◌, ◌-◌, ◌*◌, ◌^◌
 use Rattle.std.specs.declared.cmp.Ordering.TheVariants.{Less, Equal, Greater}
 use Rattle.std.specs.declared.cmp.Ordering.{Ordering}
 use Rattle.std.specs.List.{flat_map}
+use Rattle.std.specs.Coded.{le_prop}
+use denote.Struct.Props.{props}
 use Rattle.hierarchy.specs.Dimensions.{Dims, Row}
 use Rattle.hierarchy.specs.Levels.{same}
 use Rattle.hierarchy.specs.Parts.{parts}
@@ -73,6 +75,13 @@ pub record Sound (w : ℕ) (xs : List ℕ) : Type 0 where
   pub whole : Whole w xs
   pub ordered : InOrder (table_in w xs)
   pub filled : NoneEmpty (table_in w xs)
+
+-- that a row is sound can be so in one way only
+pub sound_prop : (w : ℕ) (xs : List ℕ) → IsProp (Sound w xs)
+sound_prop w xs p q =
+    let ordered : IsProp (InOrder (table_in w xs)) = hlevel props in
+    let filled : IsProp (NoneEmpty (table_in w xs)) = hlevel props in
+    λ i. record { whole = le_prop p.whole q.whole i; ordered = ordered p.ordered q.ordered i; filled = filled p.filled q.filled i }
 
 -- every place has one number a dimension
 abbrev pub Wide : ℕ → Table → Type 0

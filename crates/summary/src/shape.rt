@@ -7,7 +7,9 @@ mod roll;
 mod search;
 
 // How a table lies in memory, for a number of dimensions: the width of a place.
-#[derive(Clone, Copy)]
+// Rows are lent as slices of u64, the project's form. A struct around a `&mut` would have to keep such a fact at each write, and an
+// insert breaks it between two: so contracts say of a row that it is whole or sound.
+#[derive(Clone, Copy, Debug, PartialEq, Eq)]
 pub struct Shape {
     width: usize,
     ghost least: { 1 ≤ width },

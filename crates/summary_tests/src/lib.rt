@@ -4,7 +4,7 @@
 #[cfg(test)]
 mod tests {
     use hierarchy::Dimensions;
-    use replies::{Refusal, Reply};
+    use replies::Refusal;
     use rollup::{GROUPS, check, roll};
     use std::process::Abort;
     use std::test::Fail;
@@ -30,19 +30,12 @@ mod tests {
     // A sale comes to the table of a row, if it is one.
     fn put(dims: &Dimensions, row: &mut [u64], sale: (u64, u64, u64)) -> Result<bool, Fail> {
         let (branch, day, amount) = sale;
-        if amount >= 4294967296 {
+        if amount >= 1 << 32 {
             return Err(Fail::new("amount"));
         }
         check(dims, GROUPS, row)?;
-        let place = [branch, day, 0, 0];
-        Ok(Shape::of(dims).put(
-            row,
-            Group {
-                place,
-                count: 1,
-                sum: amount,
-            },
-        ))
+        let group = Group::one([branch, day, 0, 0], amount);
+        Ok(Shape::of(dims).put(row, group))
     }
 
     fn put_all(rt: &impl Abort, dims: &Dimensions, row: &mut [u64]) -> Result<(), Fail> {
@@ -61,7 +54,7 @@ mod tests {
         same(&rt, &row[11..23], &[2, 8, 1, 1, 5, 9, 1, 7, 5, 10, 1, 3]);
         assert_eq!(rt; put(&dims, &mut row, (0, 1, 1))?, false);
         let mut out = [9; 23];
-        assert_eq!(rt; roll(&SHOP, &row, &[0, 1], &mut out), Reply::Shown(5));
+        assert_eq!(rt; roll(&SHOP, &row, &[0, 1], &mut out), Ok(5));
         same(&rt, &out[0..11], &[0, 1, 4, 0, 0, 1, 5, 1, 0, 2, 6]);
         same(&rt, &out[11..23], &[2, 1, 1, 1, 5, 1, 2, 10, 9, 9, 9, 9]);
         Ok(())
@@ -130,7 +123,7 @@ mod tests {
     // Refused, and the row is as it was: six numbers, one too few for a group.
     fn refuses(rt: &impl Abort, sides: &[u64], from: &[u64], to: &[u64], refusal: Refusal) {
         let mut out = [9; 6];
-        assert_eq!(rt; roll(sides, from, to, &mut out), Reply::Refused(refusal));
+        assert_eq!(rt; roll(sides, from, to, &mut out), Err(refusal));
         assert_eq!(rt; out, [9; 6]);
     }
 
@@ -152,27 +145,21 @@ mod tests {
     #[test]
     fn rolls(rt: HostRuntime) {
         let mut few = [9; 4];
-        assert_eq!(rt; roll(&SHOP, &[0, 0, 0], &[3, 2], &mut few), Reply::Shown(0));
+        assert_eq!(rt; roll(&SHOP, &[0, 0, 0], &[3, 2], &mut few), Ok(0));
         assert_eq!(rt; few, [3, 2, 0, 9]);
         let mut one = [9; 7];
         assert_eq!(rt;
             roll(&SHOP, &[1, 1, 1, 3, 4, 2, 8], &[2, 1], &mut one),
-            Reply::Shown(1)
+            Ok(1)
         );
         assert_eq!(rt; one, [2, 1, 1, 1, 4, 2, 8]);
         // Three levels in the second and the fourth dimension, two in the others.
-        let mut sides = [0; 21];
-        sides[0] = 4;
-        sides[6] = 1;
-        sides[7] = 2;
-        sides[16] = 1;
-        sides[17] = 3;
+        let sides = [
+            4, 0, 0, 0, 0, 0, 1, 2, 0, 0, 0, 0, 0, 0, 0, 0, 1, 3, 0, 0, 0,
+        ];
         let from = [0, 0, 0, 0, 2, 1, 2, 3, 4, 1, 5, 1, 3, 3, 5, 2, 6];
         let mut four = [9; 17];
-        assert_eq!(rt;
-            roll(&sides, &from, &[0, 1, 1, 1], &mut four),
-            Reply::Shown(2)
-        );
+        assert_eq!(rt; roll(&sides, &from, &[0, 1, 1, 1], &mut four), Ok(2));
         assert_eq!(rt; four, [0, 1, 1, 1, 1, 1, 1, 0, 1, 3, 11, 9, 9, 9, 9, 9, 9]);
     }
 }

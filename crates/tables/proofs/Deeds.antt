@@ -1,6 +1,6 @@
 -- A fact that comes to the table in a part, or goes from it. Assumes nothing.
 use Rattle.std.proofs.Common.{◌≡◌, ℕ, suc, ◌+◌, ◌^◌, ◌<◌, ◌≤◌, Bool, true, false, cond, List, [], ◌∷◌, length, take, sym, refl, ap, ◌∙◌, subst, inl, inr, arith}
-use Rattle.std.proofs.lemmas.List.{length-take, length-take-le}
+use Rattle.std.proofs.lemmas.List.{length-take-le}
 use Rattle.std.proofs.lemmas.Bool.{cases_Bool, or_left, or_right, or_parts, le-leb}
 use Rattle.hierarchy.specs.Dimensions.{Dims, Row, four}
 use Rattle.hierarchy.specs.Levels.{same, finest}
@@ -127,9 +127,6 @@ fact_place ss w xs ps width few a b =
 -- the same as the code has it: v is the width that a shape or a book says
 module _ (ss : Dims) (v : ℕ) (q : v ≡ length ss) (few : length ss ≤ 4) (e : Entry) (xs : List ℕ) (s : summary.Sound (length ss) xs)
     (long : length e.place ≡ length ss) where
-  pub sound_there : summary.Sound v xs
-  sound_there = subst (λ (n : ℕ). summary.Sound n xs) (sym q) s
-
   module _ (g : Group) (here : take (length ss) g.place ≡ place_at ss (take (length ss) xs) e.place) (once : g.count ≡ 1) (much : g.sum ≡ e.amount) where
     pub fits_there : ((total (table_in (length ss) xs)).count + 1 < 2 ^ 64) × ((total (table_in (length ss) xs)).sum + e.amount < 2 ^ 64) → PutFits v g xs
     fits_there fits = subst (λ (n : ℕ). PutFits n g xs) (sym q) (put_fits ss (length ss) e xs few refl s long g here once much fits)
@@ -154,10 +151,6 @@ pub part_place : (ss : Dims) (xs ps as-four p : List ℕ) → length ss ≤ 4 �
     → p ≡ four (place_at ss (take (length ss) as-four) ps) → take (length ss) p ≡ place_at ss (take (length ss) xs) (take (length ss) ps)
 part_place ss xs ps as-four p few a b e f =
     ap (take (length ss)) (f ∙ ap (λ ls. four (place_at ss (take (length ss) ls) ps)) e) ∙ fact_place ss (length ss) xs ps refl few a b
-
--- from the width of a fact's place
-pub numbers_there : (w : ℕ) (ps : List ℕ) → length (take w ps) ≡ w → w ≤ length ps
-numbers_there w ps h = omega (arith, length-take w ps)
 
 pub levels_there : (w : ℕ) (xs : List ℕ) → summary.Sound w xs → w ≤ length xs
 levels_there w xs s = omega (arith, s.whole)

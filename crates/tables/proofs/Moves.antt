@@ -14,8 +14,7 @@ use Rattle.summary.proofs.Rows.{table_length}
 use Rattle.summary.proofs.Rolls.{wide_rolled}
 use Rattle.summary.proofs.Soundness.{wide_table}
 use Rattle.model.specs.House.{Kept}
-use Rattle.tables.specs.Memory.{wide, part_size}
-use Rattle.tables.specs.Memory.{part, kept_in}
+use Rattle.tables.specs.Memory.{wide, part_size, part, kept_in}
 use Rattle.tables.specs.Ready.{kept_table, kept_tables, Ready, Left}
 use Rattle.tables.specs.declared.layout.TableLayout.{TableLayout}
 use Rattle.tables.proofs.Places.{within, part_written, part_before, tables_length, table_at, tables_are, part_long}

@@ -1,5 +1,5 @@
 -- Where parts lie: bounds, and what a write to one part leaves of the others. Assumes nothing.
-use Rattle.std.proofs.Common.{◌≡◌, ℕ, suc, ◌+◌, ◌-◌, ◌*◌, ◌^◌, ◌<◌, ◌≤◌, List, [], ◌∷◌, map, length, get_or, take, drop, sym, refl, ap, ◌∙◌, inl, inr, mul-le-mul, mul-le-mul_left, arith}
+use Rattle.std.proofs.Common.{◌≡◌, ℕ, suc, ◌+◌, ◌-◌, ◌*◌, ◌^◌, ◌<◌, ◌≤◌, List, [], ◌∷◌, map, length, get_or, take, drop, sym, ap, ◌∙◌, inl, inr, mul-le-mul, arith}
 use borrow.Rule.Slice.PartMut.{put_mid}
 use Rattle.std.proofs.lemmas.List.{drop-drop, drop-take, ext_get_or, get_or-map, length-map, length-take-le, length-drop, get_or-take, nil_from_length}
 use Rattle.std.proofs.lemmas.Bool.{cases_lt}
@@ -11,9 +11,6 @@ use Rattle.tables.specs.Memory.{part, kept_in, tables_in, Each}
 
 pub size_bound : (w g : ℕ) → w ≤ 4 → g ≤ 2 ^ 32 → start w g < 2 ^ 36
 size_bound w g p q = let v : w + 2 ≤ 6 = omega arith in let m : (w + 2) * g ≤ 6 * 2 ^ 32 = mul-le-mul v q in omega (arith, m)
-
-pub at_bound : (s i : ℕ) → s < 2 ^ 36 → i ≤ 16 → 1 + s * i < 2 ^ 41
-at_bound s i p q = omega (arith, mul-le-mul_left s q)
 
 pub within : (s i : ℕ) → i < 16 → 1 + s * i + s ≤ 1 + s * 16
 within s i h = omega (arith, place_le s (suc i) 16 (omega arith), next_place s i)
@@ -41,9 +38,6 @@ module _ (s t : ℕ) (xs ys : List ℕ) (long : 1 + s * t + s ≤ length xs) (ex
   head_kept =
       let a = take-put_mid_below (1 + s * t) s xs ys 1 (omega arith) (omega arith) in
       sym (get_or-take 1 (put_mid (1 + s * t) s xs ys) 0 0 (omega arith)) ∙ ap (λ zs. get_or zs 0 0) a ∙ get_or-take 1 xs 0 0 (omega arith)
-
-pub each_none : (s : ℕ) (R : List ℕ → List ℕ → Type 0) (xs : List ℕ) → Each s R 0 xs xs
-each_none s R xs = record { head = refl; made = λ j h. absurd (omega arith); rest = λ j h. refl }
 
 pub each_more : (s : ℕ) (R : List ℕ → List ℕ → Type 0) (t : ℕ) (xs ys zs : List ℕ) → 1 + s * t + s ≤ length ys → length zs ≡ s
     → R (part s t xs) zs → Each s R t xs ys → Each s R (t + 1) xs (put_mid (1 + s * t) s ys zs)

@@ -1,5 +1,5 @@
 -- Whether a table takes one fact more. Assumes nothing.
-use Rattle.std.proofs.Common.{◌≡◌, ℕ, suc, ◌≤◌, Bool, true, false, ltb, leb, List, length, take, is_ok, Ok, Err, Result, sym, ap, ◌∙◌, subst, inl, inr, arith}
+use Rattle.std.proofs.Common.{◌≡◌, ℕ, suc, ◌≤◌, Bool, true, false, ltb, leb, List, length, take, is_ok, Ok, Err, Result, sym, ap, ◌∙◌, inl, inr, arith}
 use Rattle.std.proofs.lemmas.List.{length-set}
 use Rattle.std.proofs.lemmas.List.Edits.{length-insert}
 use Rattle.std.proofs.lemmas.Bool.{cases_lt, le-leb, true≢false}
@@ -37,11 +37,6 @@ new_takes p m t g (Ok i) found bad = absurd (true≢false bad)
 new_takes p m t g (Err i) found bad =
     let e : length (put p m t) ≡ suc (length t) = ap length (put_would p m t i found) ∙ length-insert t i _ found.0 ∙ (omega arith) in
     sym (ap (λ n. leb n g) e)
-
--- a group found at the numbers of a place is found at the place
-pub found_there : (ss : Dims) (v : ℕ) (p place : Row) (xs : List ℕ) (r : Result ℕ ℕ) → v ≡ length ss → take (length ss) p ≡ place
-    → Found (take v p) (table_in v xs) r → Found place (table_in (length ss) xs) r
-found_there ss v p place xs r q here found = rw here at (subst (λ (n : ℕ). Found (take n p) (table_in n xs) r) q found)
 
 module _ (ss : Dims) (v : ℕ) (q : v ≡ length ss) (e : Entry) (xs : List ℕ) (g : ℕ) (r : Result ℕ ℕ) (s : summary.Sound (length ss) xs)
     (exact : length xs ≡ start (length ss) g) (found : Found (place_at ss (take (length ss) xs) e.place) (table_in (length ss) xs) r) where

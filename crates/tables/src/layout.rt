@@ -12,8 +12,9 @@ mod places;
 mod readings;
 mod sources;
 
-// The dimensions, how a table lies in memory, and how many groups it may have.
-#[derive(Clone, Copy)]
+// The dimensions, how a table lies in memory, and how many groups it may have. The tables are lent to each method,
+// the project's form, many to be written: so what it needs of them (how long, how many, `Ready`, `Sound`) stands in its contract.
+#[derive(Clone, Copy, Debug, PartialEq, Eq)]
 pub struct TableLayout {
     dims: Dimensions,
     shape: Shape,

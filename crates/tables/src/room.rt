@@ -4,7 +4,7 @@ ghost use Rattle.std.specs.Prelude.{◌^◌, ◌≤◌};
 mod sizes;
 
 // So many facts, and so many groups a table: at most 2^32 of each, so that where they lie in memory is a usize.
-#[derive(Clone, Copy)]
+#[derive(Clone, Copy, Debug, PartialEq, Eq)]
 pub struct Room {
     facts: usize,
     groups: usize,

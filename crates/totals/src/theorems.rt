@@ -4,50 +4,36 @@ ghost use Rattle.totals.specs.Promises.{RolledRight, RolledTwice, AnyOrder, Adds
 ghost use Rattle.totals.specs.Examples.{Worked};
 
 /// A coarser table made of a finer one is the table of the facts.
-pub fn rolled_right() -> u8
+pub fn rolled_right()
     ensures { RolledRight }
-{
-    0
-}
+{}
 
 /// Rolling up by way of a third row of levels gives the same.
-pub fn rolled_twice() -> u8
+pub fn rolled_twice()
     ensures { RolledTwice }
-{
-    0
-}
+{}
 
 /// The order in which facts came does not matter.
-pub fn any_order() -> u8
+pub fn any_order()
     ensures { AnyOrder }
-{
-    0
-}
+{}
 
 /// Groups stand in order, none is empty, and each has what belongs to its place.
-pub fn adds_up() -> u8
+pub fn adds_up()
     ensures { AddsUp }
-{
-    0
-}
+{}
 
 /// Coarser levels have no more groups.
-pub fn coarser_smaller() -> u8
+pub fn coarser_smaller()
     ensures { CoarserSmaller }
-{
-    0
-}
+{}
 
 /// Taking out undoes putting in, and a fact goes from the table as from the facts.
-pub fn taken_back() -> u8
+pub fn taken_back()
     ensures { TakenBack }
-{
-    0
-}
+{}
 
 /// A small shop, worked out by hand.
-pub fn worked_examples() -> u8
+pub fn worked_examples()
     ensures { Worked }
-{
-    0
-}
+{}

@@ -10,7 +10,6 @@ use Rattle.hierarchy.specs.Levels.{are_levels, finest}
 use Rattle.hierarchy.specs.Facts.{Entry}
 use Rattle.ledger.specs.Book.{Holds}
 use Rattle.totals.specs.Tables.{Measure, Cell, Table, table}
-use Rattle.totals.specs.Promises.{InOrder, NoneEmpty}
 use Rattle.summary.specs.Memory as summary
 use Rattle.model.specs.House.{Kept, House, Limits}
 use Rattle.model.specs.Promises.{Sound, Whole, Valid}
@@ -30,20 +29,6 @@ table_coded = coded_list cell_coded
 
 holds_prop : (w room : ℕ) (xs : List ℕ) → IsProp (Holds w room xs)
 holds_prop w room xs p q = λ i. record { fits = le_prop p.fits q.fits i; long = le_prop p.long q.long i }
-
-ordered_prop : (t : Table) → IsProp (InOrder t)
-ordered_prop t = hlevel props
-
-filled_prop : (t : Table) → IsProp (NoneEmpty t)
-filled_prop t = hlevel props
-
-part_prop : (w : ℕ) (xs : List ℕ) → IsProp (summary.Sound w xs)
-part_prop w xs p q =
-    λ i. record {
-      whole = le_prop p.whole q.whole i;
-      ordered = ordered_prop (summary.table_in w xs) p.ordered q.ordered i;
-      filled = filled_prop (summary.table_in w xs) p.filled q.filled i;
-    }
 
 all_prop : {X : Type 0} (P : X → Type 0) → ((x : X) → IsProp (P x)) → (xs : List X) → IsProp (All P xs)
 all_prop P h [] p q = λ i. tt
@@ -79,7 +64,7 @@ memory_prop l book tables p q =
     λ i. record {
       booked = holds_prop (wide l) l.book.room book p.booked q.booked i;
       long = Coded-set coded_ℕ (length tables) (1 + part_size l * 16) p.long q.long i;
-      sound = λ j k. part_prop (wide l) (part (part_size l) j tables) (p.sound j k) (q.sound j k) i;
+      sound = λ j k. summary.sound_prop (wide l) (part (part_size l) j tables) (p.sound j k) (q.sound j k) i;
       valid = valid_prop (sides l) (limits l) (house_in l book tables) p.valid q.valid i;
     }
 

@@ -1,10 +1,12 @@
 // What a dimension answers.
-ghost use Rattle.std.specs.Prelude.{◌≡◌, ℕ, ◌+◌, ◌^◌, ◌<◌, ◌≤◌, true, false, [], length, take, drop, Some, None};
+ghost use Rattle.std.specs.Prelude.{◌≡◌, ℕ, ◌+◌, ◌<◌, ◌≤◌, true, false, [], length, take, drop, Some, None};
+ghost use Rattle.std.specs.Int.NonZero.{non_zero_u64_get};
 ghost use Rattle.hierarchy.specs.Dimensions.{product, up};
 ghost use Rattle.hierarchy.specs.Reading.{small, is_dimension, factors_in};
 ghost use Rattle.hierarchy.specs.Views.{factors_of, risen};
 
 use super::{Dimension, Rise};
+use std::num::NonZero;
 
 // Numbers of facts, factors and their products are below this.
 pub const LIMIT: u64 = 4294967296;
@@ -48,10 +50,9 @@ impl Dimension {
         if !product_is_small(&row[1..1 + count]) {
             return None;
         }
-        Some(Dimension {
-            count,
-            factors: [row[1], row[2], row[3], row[4]],
-        })
+        let mut factors = [0; 4];
+        factors[..count].copy_from_slice(&row[1..1 + count]);
+        Some(Dimension { count, factors })
     }
 
     // How many levels there are: one for each factor, beside the finest and the last.
@@ -62,15 +63,12 @@ impl Dimension {
     }
 
     // The product of the factors between two levels, neither of them the last.
-    fn between(self, from: usize, to: usize) -> u64
+    fn between(self, from: usize, to: usize) -> NonZero<u64>
         requires { to ≤ length (factors_of self) }
-        ensures { (result ≡ product (drop from (take to (factors_of self)))) × (0 < result) }
+        ensures { non_zero_u64_get result ≡ product (drop from (take to (factors_of self))) }
     {
-        let mut product: u64 = 1;
-        for i in from..to {
-            product *= self.factors[i];
-        }
-        product
+        let product = self.factors[from.min(to)..to].iter().product();
+        NonZero::<u64>::new(product).unwrap()
     }
 
     // How numbers rise from one level to another that is no finer.
@@ -78,15 +76,9 @@ impl Dimension {
         ensures { (n : ℕ) → risen result n ≡ up (factors_of self) from to n }
     {
         if to > self.count as u64 {
-            return Rise {
-                by: 1,
-                together: true,
-            };
+            return Rise::Together;
         }
-        Rise {
-            by: self.between(from as usize, to as usize),
-            together: false,
-        }
+        Rise::By(self.between(from as usize, to as usize))
     }
 }
 
@@ -95,6 +87,9 @@ impl Rise {
     pub fn number(self, n: u64) -> u64
         ensures { result ≡ risen self n }
     {
-        if self.together { 0 } else { n / self.by }
+        match self {
+            Rise::By(factors) => n / factors,
+            Rise::Together => 0,
+        }
     }
 }

@@ -1,16 +1,17 @@
 // What dimensions answer.
-ghost use Rattle.std.specs.Prelude.{◌≡◌, ℕ, ◌+◌, ◌*◌, ◌<◌, ◌≤◌, true, false, List, [], length, drop, Some, None, Ok, Err, slice_index, slice_index_or};
+ghost use Rattle.std.specs.Prelude.{◌≡◌, ℕ, ◌+◌, ◌*◌, ◌<◌, ◌≤◌, true, false, List, [], length, Some, None, Ok, Err, slice_index, slice_index_or};
 ghost use Rattle.hierarchy.specs.Dimensions.{four, up};
 ghost use Rattle.hierarchy.specs.Levels.{levels_in_dimension};
 ghost use Rattle.hierarchy.specs.Places.{place_up, place_at};
-ghost use Rattle.hierarchy.specs.Reading.{is_whole, is_dimension, factors_in, dims_in, dims_refusal, first_missing};
-ghost use Rattle.hierarchy.specs.Views.{factors_of, dims_of, carried, levels_of, risen};
+ghost use Rattle.hierarchy.specs.Reading.{is_whole, dims_in, dims_refusal, first_missing};
+ghost use Rattle.hierarchy.specs.Views.{dims_of, carried, levels_of, risen};
 ghost use Rattle.replies.specs.declared.Refusal.TheVariants.{NoDimensions, BadDimension};
 
 use super::super::dimension::{Dimension, Rise};
 use super::super::levels::Levels;
 use super::{Ascent, Dimensions};
 use replies::Refusal;
+use std::array;
 
 // How many dimensions a row is to have, if it is long enough for them.
 fn width_in(row: &[u64]) -> Result<usize, Refusal>
@@ -26,34 +27,17 @@ fn width_in(row: &[u64]) -> Result<usize, Refusal>
     Ok(width)
 }
 
-// The dimension at i of a row with so many, or one that is not used.
-fn dimension_at(row: &[u64], width: usize, i: usize) -> Result<Dimension, Refusal>
-    requires { (i < 4) × (1 + 5 * width ≤ length row.now) }
-    ensures { elim result [ Ok d ↦ (i < width → (is_dimension (drop (1 + 5 * i) row.now) ≡ true) × (factors_of d ≡ factors_in (drop (1 + 5 * i) row.now))) | Err e ↦ (i < width) × (is_dimension (drop (1 + 5 * i) row.now) ≡ false) × (e ≡ BadDimension i) ] }
-{
-    if i >= width {
-        return Ok(Dimension::plain());
-    }
-    match Dimension::read(&row[1 + 5 * i..]) {
-        Some(dimension) => Ok(dimension),
-        None => Err(Refusal::BadDimension(i)),
-    }
-}
-
 impl Dimensions {
     // Dimensions read from a row: how many, and for each how many factors and room for four. Numbers behind these are not read.
     pub fn read(row: &[u64]) -> Result<Dimensions, Refusal>
         ensures { elim result [ Ok d ↦ (dims_refusal row.now ≡ None) × (dims_of d ≡ dims_in row.now) | Err e ↦ dims_refusal row.now ≡ Some e ] }
     {
         let width = width_in(row)?;
-        let first = dimension_at(row, width, 0)?;
-        let second = dimension_at(row, width, 1)?;
-        let third = dimension_at(row, width, 2)?;
-        let fourth = dimension_at(row, width, 3)?;
-        Ok(Dimensions {
-            width,
-            each: [first, second, third, fourth],
-        })
+        let mut each = [Dimension::plain(); 4];
+        for (i, part) in row[1..1 + 5 * width].chunks_exact(5).enumerate() {
+            each[i] = Dimension::read(part).ok_or(Refusal::BadDimension(i))?;
+        }
+        Ok(Dimensions { width, each })
     }
 
     // How many dimensions there are.
@@ -67,12 +51,11 @@ impl Dimensions {
     pub fn first_missing(&self, row: &[u64]) -> Option<usize>
         ensures { result ≡ first_missing 0 (dims_of self.now) row.now }
     {
-        for i in 0..self.width {
-            if i >= row.len() || row[i] >= self.each[i].level_count() {
-                return Some(i);
-            }
-        }
-        None
+        let high = self.each[..self.width]
+            .iter()
+            .zip(row.iter())
+            .position(|(dimension, level)| *level >= dimension.level_count());
+        high.or((row.len() < self.width).then_some(row.len()))
     }
 
     // How many levels there are in a dimension, or 1 where there is no such dimension.
@@ -98,12 +81,7 @@ impl Dimensions {
     pub fn ascent(&self, from: Levels, to: Levels) -> Ascent
         ensures { (ns : List ℕ) → carried result ns ≡ place_up (dims_of self.now) (levels_of (length (dims_of self.now)) from) (levels_of (length (dims_of self.now)) to) ns }
     {
-        let each = [
-            self.rise(0, from, to),
-            self.rise(1, from, to),
-            self.rise(2, from, to),
-            self.rise(3, from, to),
-        ];
+        let each = array::from_fn(|i| self.rise(i, from, to));
         Ascent {
             width: self.width,
             each,
@@ -135,6 +113,8 @@ impl Ascent {
     pub fn place(&self, place: [u64; 4]) -> [u64; 4]
         ensures { result ≡ four (carried self.now place) }
     {
+        // Written out, since it is done once a group of a roll up: with `array::from_fn` a group took 5 to 10 in a hundred longer than
+        // before.
         [
             self.number(0, place),
             self.number(1, place),

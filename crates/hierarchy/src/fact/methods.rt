@@ -1,8 +1,8 @@
 // How a fact is read.
-ghost use Rattle.std.specs.Prelude.{◌≡◌, ℕ, ◌+◌, ◌^◌, ◌<◌, length, take, Some, None, Ok, Err, slice_index};
+ghost use Rattle.std.specs.Prelude.{◌≡◌, ◌+◌, ◌<◌, length, take, Some, None, Ok, Err, slice_index};
 ghost use Rattle.hierarchy.specs.Dimensions.{four};
-ghost use Rattle.hierarchy.specs.Reading.{first_wrong, fact_refusal, entry_in};
-ghost use Rattle.hierarchy.specs.Views.{dims_of, entry_of};
+ghost use Rattle.hierarchy.specs.Reading.{first_wrong, fact_refusal};
+ghost use Rattle.hierarchy.specs.Views.{dims_of};
 
 use super::super::dimension::methods::LIMIT;
 use super::super::dimensions::Dimensions;
@@ -14,15 +14,9 @@ use replies::Refusal;
 fn wrong_number(row: &[u64], count: usize) -> Option<usize>
     ensures { result ≡ first_wrong 0 count row.now }
 {
-    for i in 0..count {
-        if i >= row.len() || row[i] >= LIMIT {
-            return Some(i);
-        }
-    }
-    if row.len() > count {
-        return Some(count);
-    }
-    None
+    // One that is too large, or else the place at which the row ends too early or goes on.
+    let large = row.iter().take(count).position(|n| *n >= LIMIT);
+    large.or((row.len() != count).then_some(row.len().min(count)))
 }
 
 impl Fact {
@@ -31,12 +25,13 @@ impl Fact {
         ensures { elim result [ Ok f ↦ (fact_refusal (dims_of dims.now) row.now ≡ None) × (f.place ≡ four (take (length (dims_of dims.now)) row.now)) × (f.amount ≡ slice_index row.now (length (dims_of dims.now))) | Err e ↦ fact_refusal (dims_of dims.now) row.now ≡ Some e ] }
     {
         let width = dims.width();
-        match wrong_number(row, width + 1) {
-            Some(index) => Err(Refusal::BadFact(index)),
-            None => Ok(Fact {
-                place: padded(row, width),
-                amount: row[width],
-            }),
+        if let Some(number) = wrong_number(row, width + 1) {
+            return Err(Refusal::BadFact(number));
         }
+        let place = padded(row, width);
+        Ok(Fact {
+            place,
+            amount: row[width],
+        })
     }
 }

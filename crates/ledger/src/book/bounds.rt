@@ -4,7 +4,7 @@ ghost use Rattle.std.specs.Prelude.{◌≡◌, ◌^◌, ◌&&◌, is_some, IfSom
 use super::Book;
 
 // No book has room for more facts than this, so that where a fact lies is a usize.
-pub const MOST: usize = 4294967296;
+pub const MOST: usize = 1 << 32;
 
 impl Book {
     // A book for so many dimensions, one to four, with room for so many facts.

@@ -30,13 +30,11 @@ impl Book {
         ensures facts { facts_in self.width row.new ≡ without (entry_of self.width fact) (facts_in self.width row.old) }
         ensures holds { Holds self.width self.room row.new }
     {
-        match self.find(row, fact) {
-            Some(i) => {
-                self.delete(row, i);
-                true
-            }
-            None => false,
-        }
+        let Some(i) = self.find(row, fact) else {
+            return false;
+        };
+        self.delete(row, i);
+        true
     }
 
     // The i-th fact goes, and the later ones move down.

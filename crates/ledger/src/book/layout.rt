@@ -2,10 +2,11 @@
 ghost use Rattle.std.specs.Prelude.{◌≡◌, ◌-◌, ◌<◌, ◌≤◌, length, take, drop, replicate, ◌==◌, slice_index_or};
 ghost use borrow.Rule.Slice.PartMut.{put_mid};
 ghost use Rattle.hierarchy.specs.Views.{entry_of};
-ghost use Rattle.ledger.specs.Book.{stride, start, count_in, in_order, entry_in, entry_out, nothing, Holds};
+ghost use Rattle.ledger.specs.Book.{stride, start, count_in, in_order, entry_out, nothing, Holds};
 
 use super::Book;
 use hierarchy::Fact;
+use hierarchy::levels::methods::padded;
 
 impl Book {
     // How many numbers a fact takes: its place and its amount.
@@ -15,7 +16,7 @@ impl Book {
         self.width + 1
     }
 
-    // Where the i-th fact starts, behind the count.
+    // Where the i-th fact starts, behind the count. A line like those of a group and of a kept table: see `Shape::start`.
     pub(super) fn start(self, i: usize) -> usize
         requires { i ≤ self.room }
         ensures { result ≡ start self.width i }
@@ -61,7 +62,11 @@ impl Book {
         ensures fact { entry_of self.width result ≡ slice_index_or (in_order self.width row.now) i nothing }
         ensures rest { drop self.width result.place ≡ replicate (4 - self.width) 0 }
     {
-        read_part(self.part(row, i), self.width)
+        let part = self.part(row, i);
+        Fact {
+            place: padded(part, self.width),
+            amount: part[self.width],
+        }
     }
 
     // Writes a fact where the i-th lies.
@@ -71,30 +76,8 @@ impl Book {
     {
         let at = self.start(i);
         let width = self.width;
-        write_part(&mut row[at..at + self.stride()], width, fact);
+        let part = &mut row[at..at + self.stride()];
+        part[0..width].copy_from_slice(&fact.place[0..width]);
+        part[width] = fact.amount;
     }
-}
-
-// A fact from its numbers as they lie in memory.
-fn read_part(part: &[u64], width: usize) -> Fact
-    requires { (width ≤ 4) × (length part.now ≡ stride width) }
-    ensures fact { entry_of width result ≡ entry_in width part.now }
-    ensures rest { drop width result.place ≡ replicate (4 - width) 0 }
-{
-    let mut place = [0; 4];
-    place[0..width].copy_from_slice(&part[0..width]);
-    Fact {
-        place,
-        amount: part[width],
-    }
-}
-
-// Writes the numbers of a fact.
-fn write_part(part: &mut [u64], width: usize, fact: Fact)
-    requires { (width ≤ 4) × (length part.old ≡ stride width) }
-    ensures { part.new ≡ entry_out (entry_of width fact) }
-{
-    let place = fact.place;
-    part[0..width].copy_from_slice(&place[0..width]);
-    part[width] = fact.amount;
 }

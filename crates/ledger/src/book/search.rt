@@ -1,7 +1,6 @@
 // A fact looked for, from the newest on.
-ghost use Rattle.std.specs.Prelude.{◌≡◌, ◌≤◌, length, Some, None};
+ghost use Rattle.std.specs.Prelude.{◌≡◌, length, Some, None};
 ghost use Rattle.hierarchy.specs.Facts.{same_fact, copies};
-ghost use Rattle.hierarchy.specs.Levels.{same};
 ghost use Rattle.hierarchy.specs.Views.{entry_of};
 ghost use Rattle.ledger.specs.Book.{stride, in_order, facts_in, entry_in, Holds, Newest};
 
@@ -14,33 +13,16 @@ impl Book {
         requires { Holds self.width self.room row.now }
         ensures { elim result [ Some i ↦ Newest (entry_of self.width fact) (in_order self.width row.now) i | None ↦ copies (entry_of self.width fact) (facts_in self.width row.now) ≡ 0 ] }
     {
-        for i in (0..self.count(row)).rev() {
-            if is_fact(self.part(row, i), self.width, fact) {
-                return Some(i);
-            }
-        }
-        None
+        (0..self.count(row)).rfind(|&i| self.is_fact(self.part(row, i), fact))
     }
-}
 
-// Whether these are the numbers of the fact.
-fn is_fact(part: &[u64], width: usize, fact: Fact) -> bool
-    requires { (width ≤ 4) × (length part.now ≡ stride width) }
-    ensures { result ≡ same_fact (entry_of width fact) (entry_in width part.now) }
-{
-    let place = fact.place;
-    same_numbers(&place[0..width], &part[0..width]) && fact.amount == part[width]
-}
-
-// Whether two rows of one length are equal.
-fn same_numbers(a: &[u64], b: &[u64]) -> bool
-    requires { length a.now ≡ length b.now }
-    ensures { result ≡ same a.now b.now }
-{
-    for i in 0..a.len() {
-        if a[i] != b[i] {
-            return false;
-        }
+    // Whether these are the numbers of the fact: not `==` of two facts, since numbers of an array behind the dimensions do not count.
+    // The amount comes first, since it mostly differs.
+    fn is_fact(self, part: &[u64], fact: Fact) -> bool
+        requires { length part.now ≡ stride self.width }
+        ensures { result ≡ same_fact (entry_of self.width fact) (entry_in self.width part.now) }
+    {
+        let width = self.width;
+        fact.amount == part[width] && fact.place[0..width] == part[0..width]
     }
-    true
 }

@@ -41,12 +41,12 @@ returns-in-Some-first_bad_group c =
     bad_group (dims_of c.args.dims.now) c.args.room c.args.row.now w c.of-shape.ensures (omega arith) (sym c.in_default.ensures) there
     c.in-Some-first_bad_group.group c.in-Some-first_bad_group.ensures
 
-pub returns-in-None : goal.returns-in-None
-returns-in-None c =
+pub returns : goal.returns
+returns c =
     let w = c.of-shape.result.width in
     let e = c.width-width.ensures in
     let is = c.of-shape.ensures in
-    let h = c.in-None.ensures in
+    let h = c.in_default-first_bad_group.ensures in
     let there = groups_there w c.args.room c.args.row.now c.width-width.result e c.if-groups-room.false (sym c.if-not-fits.ensures) in
     let good = all_good (dims_of c.args.dims.now) c.args.room c.args.row.now w is (omega arith) (sym c.in_default.ensures) there h.1 in
     let v-is : c.width-width.result ≡ length (dims_of c.args.dims.now) = e ∙ is in

@@ -1,13 +1,24 @@
-use Rattle.std.proofs.Common.{take, sym, ap, ◌∙◌}
+use Rattle.std.proofs.Common.{◌≡◌, true, false, take, sym, ap, ◌∙◌, rules}
+use borrow.Author.Tests.{tests}
+use Rattle.std.proofs.lemmas.Iterator.{first_from_Range}
 use Rattle.hierarchy.specs.Dimensions.{four}
-use Rattle.rollup.specs.Entry.{reach_refusal}
+use Rattle.hierarchy.specs.Views.{dims_of}
+use Rattle.rollup.specs.Entry.{out_of_reach, reach_refusal}
+use Rattle.rollup.proofs.Refusals.{first_found}
 use Rattle.rollup.proofs.levels_above.Goals as goal
 
 pub returns-in-Some : goal.returns-in-Some
 unfolding reach_refusal
-returns-in-Some c = rw (sym c.in-Some.ensures)
+returns-in-Some c =
+    let far = out_of_reach (dims_of c.args.dims.now) c.args.from.now c.args.to.now in
+    let h = first_from_Range _ _ _ _ (λ k. far k ≡ true) (λ k. far k ≡ false) c.find-bad.ensures.ran (λ k q m. search (rules, tests)) (λ k q m. search (rules, tests)) in
+    let first = first_found far _ _ _ c.width.ensures.0 h in
+    rw (sym first, c.in-Some.is)
 
-pub returns-in-None : goal.returns-in-None
+pub returns : goal.returns
 unfolding reach_refusal
-returns-in-None c =
-    (rw (sym c.in-None.ensures), c.padded.ensures ∙ ap (λ w. four (take w c.args.to.now)) c.width.ensures.0)
+returns c =
+    let far = out_of_reach (dims_of c.args.dims.now) c.args.from.now c.args.to.now in
+    let h = first_from_Range _ _ _ _ (λ k. far k ≡ true) (λ k. far k ≡ false) c.find-bad.ensures.ran (λ k q m. search (rules, tests)) (λ k q m. search (rules, tests)) in
+    let first = first_found far _ _ _ c.width.ensures.0 h in
+    (rw (sym first, c.in_default.is), c.front.ensures ∙ ap (λ w. four (take w c.args.to.now)) c.width-2.ensures.0)

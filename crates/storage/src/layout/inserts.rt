@@ -3,27 +3,29 @@ ghost use Rattle.std.specs.Prelude.{◌≡◌, Some, None, Ok, Err};
 ghost use Rattle.hierarchy.specs.Reading.{entry_in};
 ghost use Rattle.hierarchy.specs.Views.{entry_of};
 ghost use Rattle.model.specs.House.{insert, refusal};
+ghost use Rattle.replies.specs.Replies.{of_deed};
 ghost use Rattle.storage.specs.Memory.{sides, wide, limits, house_in, Memory, Does};
-ghost use Rattle.tables.specs.Memory.{part};
 
 use super::Layout;
 use hierarchy::Fact;
-use replies::{Refusal, Reply};
+use replies::Refusal;
 
 impl Layout {
     // One fact more, if the book and the finest table have room for it: no other table then has more groups.
-    pub fn insert(&self, numbers: &[u64], book: &mut [u64], tables: &mut [u64]) -> Reply
+    #[tactic(auto, using(crate::proofs::Inserts::book_free, crate::proofs::Inserts::few_kept))]
+    pub fn insert(
+        &self,
+        numbers: &[u64],
+        book: &mut [u64],
+        tables: &mut [u64],
+    ) -> Result<(), Refusal>
         requires { Memory self.now book.old tables.old }
-        ensures { Does self.now (insert numbers.now) result book.old tables.old book.new tables.new }
+        ensures { Does self.now (insert numbers.now) (of_deed result) book.old tables.old book.new tables.new }
     {
-        match self.insertable(numbers, book, tables) {
-            Err(refusal) => Reply::Refused(refusal),
-            Ok(fact) => {
-                self.book.insert(book, fact);
-                self.tables.put_all(tables, fact);
-                Reply::Done
-            }
-        }
+        let fact = self.insertable(numbers, book, tables)?;
+        self.book.insert(book, fact);
+        self.tables.put_all(tables, fact);
+        Ok(())
     }
 
     // The fact to insert, or why it is refused.

@@ -2,43 +2,49 @@
 ghost use Rattle.std.specs.Prelude.{◌≡◌, ℕ, List, length, Some, None, Ok, Err};
 ghost use Rattle.hierarchy.specs.Reading.{levels_in};
 ghost use Rattle.hierarchy.specs.Views.{levels_of};
-ghost use Rattle.model.specs.House.{refusal, keep, drop_table, kept_at, source};
+ghost use Rattle.model.specs.House.{refusal, keep, drop_table, kept_at};
+ghost use Rattle.replies.specs.Replies.{of_deed};
 ghost use Rattle.storage.specs.Memory.{sides, wide, limits, house_in, Memory, part_size, Does};
 ghost use Rattle.tables.specs.Ready.{kept_tables, Ready};
 
 use super::Layout;
 use hierarchy::Levels;
-use replies::{Refusal, Reply};
+use replies::Refusal;
 use tables::TABLES;
 
 impl Layout {
     // Keeps the totals at the levels that are named, in a table behind the others. `row` is room to make it in.
-    pub fn keep(&self, numbers: &[u64], book: &[u64], tables: &mut [u64], row: &mut [u64]) -> Reply
+    #[tactic(auto, using(crate::proofs::Rebuilt::memory_ready))]
+    pub fn keep(
+        &self,
+        numbers: &[u64],
+        book: &[u64],
+        tables: &mut [u64],
+        row: &mut [u64],
+    ) -> Result<(), Refusal>
         requires memory { Memory self.now book.now tables.old }
         requires row { length row.old ≡ part_size self.now }
-        ensures { Does self.now (keep numbers.now) result book.now tables.old book.now tables.new }
+        ensures { Does self.now (keep numbers.now) (of_deed result) book.now tables.old book.now tables.new }
     {
-        match self.may_keep(numbers, tables) {
-            Ok(levels) => {
-                self.tables.add(levels, tables, row);
-                Reply::Done
-            }
-            Err(refusal) => Reply::Refused(refusal),
-        }
+        let levels = self.may_keep(numbers, tables)?;
+        self.tables.add(levels, tables, row);
+        Ok(())
     }
 
     // Drops the table at the levels that are named.
-    pub fn drop_table(&self, numbers: &[u64], book: &[u64], tables: &mut [u64]) -> Reply
+    #[tactic(auto, using(crate::proofs::Rebuilt::memory_ready))]
+    pub fn drop_table(
+        &self,
+        numbers: &[u64],
+        book: &[u64],
+        tables: &mut [u64],
+    ) -> Result<(), Refusal>
         requires { Memory self.now book.now tables.old }
-        ensures { Does self.now (drop_table numbers.now) result book.now tables.old book.now tables.new }
+        ensures { Does self.now (drop_table numbers.now) (of_deed result) book.now tables.old book.now tables.new }
     {
-        match self.may_drop(numbers, tables) {
-            Ok(place) => {
-                self.tables.remove(place, tables);
-                Reply::Done
-            }
-            Err(refusal) => Reply::Refused(refusal),
-        }
+        let place = self.may_drop(numbers, tables)?;
+        self.tables.remove(place, tables);
+        Ok(())
     }
 
     // The levels at which a table may be kept, or why not. No fact counts for that.
@@ -50,7 +56,8 @@ impl Layout {
         if let Some(place) = self.tables.place_of(tables, levels) {
             return Err(Refusal::AlreadyKept(place));
         }
-        if tables[0] as usize >= TABLES {
+        let kept = self.tables.kept(tables);
+        if kept >= TABLES {
             return Err(Refusal::AllKept);
         }
         Ok(levels)
@@ -65,9 +72,6 @@ impl Layout {
         if self.tables.are_finest(levels) {
             return Err(Refusal::FinestStays);
         }
-        match self.tables.place_of(tables, levels) {
-            Some(place) => Ok(place),
-            None => Err(Refusal::NotKept),
-        }
+        self.tables.place_of(tables, levels).ok_or(Refusal::NotKept)
     }
 }

@@ -1,7 +1,6 @@
 // How much memory a warehouse takes.
-ghost use Rattle.std.specs.Prelude.{◌≡◌, ◌+◌, ◌*◌, ◌^◌, ◌<◌, ◌&&◌, length, is_some, IfSome, nat_le};
+ghost use Rattle.std.specs.Prelude.{◌≡◌, ◌+◌, ◌*◌, ◌^◌, ◌<◌, ◌&&◌, is_some, IfSome, nat_le};
 ghost use Rattle.storage.specs.Memory.{wide, limits, part_size, book_size};
-ghost use Rattle.tables.specs.Memory.{part};
 ghost use Rattle.tables.specs.Rooms.{limits_of};
 
 use super::Layout;

@@ -4,7 +4,6 @@ ghost use Rattle.totals.specs.Tables.{before};
 ghost use Rattle.summary.specs.Memory.{count_in, table_in, Whole, Sound, none, bad, AllGood, FirstBad};
 
 use super::Shape;
-use std::cmp::Ordering;
 
 impl Shape {
     // The first group that is empty, too large, or does not come after the one before.
@@ -12,12 +11,7 @@ impl Shape {
         requires { Whole self.width row.now }
         ensures { elim result [ Some i ↦ FirstBad (table_in self.width row.now) i | None ↦ Sound self.width row.now × AllGood (table_in self.width row.now) ] }
     {
-        for i in 0..self.count(row) {
-            if self.is_bad(row, i) {
-                return Some(i);
-            }
-        }
-        None
+        (0..self.count(row)).find(|&i| self.is_bad(row, i))
     }
 
     fn is_bad(self, row: &[u64], i: usize) -> bool
@@ -34,11 +28,6 @@ impl Shape {
         ensures { result ≡ before (slice_index_or (table_in self.width row.now) (i - 1) none).place (slice_index_or (table_in self.width row.now) i none).place }
     {
         let last = self.group(row, i - 1);
-        let place = last.place;
-        match self.compare_at(row, i, place) {
-            Ordering::Greater => true,
-            Ordering::Less => false,
-            Ordering::Equal => false,
-        }
+        self.compare_at(row, i, last.place).is_gt()
     }
 }

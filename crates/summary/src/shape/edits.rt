@@ -16,12 +16,12 @@ impl Shape {
         ensures after { row.new ≡ (if result then holding self.width (put_in self.width group row.old) row.old else row.old) }
         ensures sound { 0 < group.count → Sound self.width row.new }
     {
-        let place = group.place;
-        let at = self.find(row, place);
+        let at = self.find(row, group.place);
         self.put_at(row, at, group)
     }
 
-    // As `put`, where groups mostly come in order.
+    // As `put`, where groups mostly come in order. The search alone differs: a closure for it would
+    // owe the search's contract as one clause more, so that it is no plainer.
     pub fn append(self, row: &mut [u64], group: Group) -> bool
         requires sound { Sound self.width row.old }
         requires fits { PutFits self.width group row.old }
@@ -29,8 +29,7 @@ impl Shape {
         ensures after { row.new ≡ (if result then holding self.width (put_in self.width group row.old) row.old else row.old) }
         ensures sound { 0 < group.count → Sound self.width row.new }
     {
-        let place = group.place;
-        let at = self.find_from_end(row, place);
+        let at = self.find_from_end(row, group.place);
         self.put_at(row, at, group)
     }
 
@@ -59,18 +58,16 @@ impl Shape {
         ensures after { row.new ≡ (if result then holding self.width (take_out (take self.width place) amount (table_in self.width row.old)) row.old else row.old) }
         ensures sound { Sound self.width row.new }
     {
-        match self.find(row, place) {
-            Ok(i) => {
-                let old = self.group(row, i);
-                if old.count <= 1 {
-                    self.remove(row, i);
-                } else {
-                    self.replace(row, i, old.without(amount));
-                }
-                true
-            }
-            Err(_) => false,
+        let Ok(i) = self.find(row, place) else {
+            return false;
+        };
+        let old = self.group(row, i);
+        if old.count <= 1 {
+            self.remove(row, i);
+        } else {
+            self.replace(row, i, old.without(amount));
         }
+        true
     }
 
     // Writes a group over the i-th.

@@ -5,6 +5,7 @@ ghost use Rattle.summary.specs.Memory.{stride, start, count_in, table_in, Whole,
 
 use super::Shape;
 use crate::group::Group;
+use hierarchy::levels::methods::padded;
 
 impl Shape {
     // The shape for so many dimensions: one to four.
@@ -32,7 +33,8 @@ impl Shape {
         self.width + 2
     }
 
-    // Where the i-th group starts.
+    // Where the i-th group starts. A book and the kept tables have `start` and `part` like these, and a book `write`, each with another
+    // head, length and bound: a type for the three would be no plainer than these lines.
     pub fn start(self, i: usize) -> usize
         requires { start self.width i < 2 ^ 64 }
         ensures { result ≡ start self.width i }
@@ -70,7 +72,28 @@ impl Shape {
         ensures cell { cell_of self.width result ≡ slice_index_or (table_in self.width row.now) i none }
         ensures rest { drop self.width result.place ≡ replicate (4 - self.width) 0 }
     {
-        read_part(self.part(row, i), self.width)
+        self.read(self.part(row, i))
+    }
+
+    // The numbers of all groups, one behind the other.
+    pub fn groups(self, row: &[u64]) -> &[u64]
+        requires { Whole self.width row.now }
+        ensures { result.now ≡ take (stride self.width * count_in self.width row.now) (drop (self.width + 1) row.now) }
+    {
+        &row[self.start(0)..self.start(self.count(row))]
+    }
+
+    // A group from its numbers.
+    pub fn read(self, part: &[u64]) -> Group
+        requires { length part.now ≡ stride self.width }
+        ensures cell { cell_of self.width result ≡ cell_in self.width part.now }
+        ensures rest { drop self.width result.place ≡ replicate (4 - self.width) 0 }
+    {
+        Group {
+            place: padded(part, self.width),
+            count: part[self.width],
+            sum: part[self.width + 1],
+        }
     }
 
     // Writes a group where the i-th lies.
@@ -80,32 +103,9 @@ impl Shape {
     {
         let at = self.start(i);
         let width = self.width;
-        write_part(&mut row[at..at + self.stride()], width, group);
+        let part = &mut row[at..at + self.stride()];
+        part[0..width].copy_from_slice(&group.place[0..width]);
+        part[width] = group.count;
+        part[width + 1] = group.sum;
     }
-}
-
-// A group from its numbers as they lie in memory.
-fn read_part(part: &[u64], width: usize) -> Group
-    requires { (width ≤ 4) × (length part.now ≡ stride width) }
-    ensures cell { cell_of width result ≡ cell_in width part.now }
-    ensures rest { drop width result.place ≡ replicate (4 - width) 0 }
-{
-    let mut place = [0; 4];
-    place[0..width].copy_from_slice(&part[0..width]);
-    Group {
-        place,
-        count: part[width],
-        sum: part[width + 1],
-    }
-}
-
-// Writes the numbers of a group.
-fn write_part(part: &mut [u64], width: usize, group: Group)
-    requires { (width ≤ 4) × (length part.old ≡ stride width) }
-    ensures { part.new ≡ cell_out (cell_of width group) }
-{
-    let place = group.place;
-    part[0..width].copy_from_slice(&place[0..width]);
-    part[width] = group.count;
-    part[width + 1] = group.sum;
 }

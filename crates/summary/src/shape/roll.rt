@@ -7,7 +7,6 @@ ghost use Rattle.summary.specs.Memory.{start, count_in, table_in, row_over, roll
 
 use super::Shape;
 use crate::group::Group;
-use hierarchy::levels::methods::padded;
 use hierarchy::{Ascent, Dimensions, Levels};
 
 impl Shape {
@@ -31,12 +30,10 @@ impl Shape {
         ensures after { to.new ≡ row_over self.width (levels_of self.width levels) (rolled_in self.width (dims_of dims.now) (levels_of self.width levels) from.now) to.old }
         ensures sound { Sound self.width to.new }
     {
-        let at = padded(from, self.width);
-        let ascent = dims.ascent(Levels { at }, levels);
+        let ascent = dims.ascent(Levels::front(from, self.width), levels);
         self.begin(to, levels);
-        for i in 0..self.count(from) {
-            let group = self.group(from, i);
-            self.append(to, raised(group, &ascent));
+        for part in self.groups(from).chunks_exact(self.stride()) {
+            self.append(to, raised(self.read(part), &ascent));
         }
     }
 
@@ -46,8 +43,7 @@ impl Shape {
         ensures { row.new ≡ levels_of self.width levels ++ (0 ∷ drop (self.width + 1) row.old) }
     {
         let width = self.width;
-        let at = levels.at;
-        row[0..width].copy_from_slice(&at[0..width]);
+        row[0..width].copy_from_slice(&levels.at[0..width]);
         row[width] = 0;
     }
 }
@@ -56,11 +52,8 @@ impl Shape {
 fn raised(group: Group, ascent: &Ascent) -> Group
     ensures { (result.place ≡ four (carried ascent.now group.place)) × (result.count ≡ group.count) × (result.sum ≡ group.sum) }
 {
-    let place = group.place;
-    let up = ascent.place(place);
     Group {
-        place: up,
-        count: group.count,
-        sum: group.sum,
+        place: ascent.place(group.place),
+        ..group
     }
 }

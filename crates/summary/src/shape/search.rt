@@ -1,5 +1,5 @@
 // A group found by its place.
-ghost use Rattle.std.specs.Prelude.{◌≡◌, ◌+◌, ◌-◌, ◌<◌, length, take, slice_index_or};
+ghost use Rattle.std.specs.Prelude.{◌+◌, ◌-◌, ◌<◌, take, slice_index_or};
 ghost use Rattle.summary.specs.Memory.{count_in, table_in, Whole, Sound, none, Compared, Found};
 
 use super::Shape;
@@ -7,6 +7,7 @@ use std::cmp::Ordering;
 
 impl Shape {
     // Where the group of a place stands, or where it would; by halves.
+    // A loop, since the library's search is over a slice of groups, and a lent row is one of numbers.
     pub fn find(self, row: &[u64], place: [u64; 4]) -> Result<usize, usize>
         requires { Sound self.width row.now }
         ensures { Found (take self.width place) (table_in self.width row.now) result }
@@ -46,23 +47,6 @@ impl Shape {
         ensures { Compared (slice_index_or (table_in self.width row.now) i none).place (take self.width place) result }
     {
         let width = self.width;
-        let part = self.part(row, i);
-        compare(&part[0..width], &place[0..width])
+        self.part(row, i)[0..width].cmp(&place[0..width])
     }
-}
-
-// Number by number: the first that differs decides.
-pub fn compare(a: &[u64], b: &[u64]) -> Ordering
-    requires { length a.now ≡ length b.now }
-    ensures { Compared a.now b.now result }
-{
-    for i in 0..a.len() {
-        if a[i] < b[i] {
-            return Ordering::Less;
-        }
-        if b[i] < a[i] {
-            return Ordering::Greater;
-        }
-    }
-    Ordering::Equal
 }

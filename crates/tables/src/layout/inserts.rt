@@ -4,8 +4,7 @@ ghost use Rattle.hierarchy.specs.Views.{entry_of};
 ghost use Rattle.hierarchy.specs.Places.{place_at};
 ghost use Rattle.summary.specs.Memory.{table_in, Sound, Found};
 ghost use Rattle.model.specs.House.{with_fact};
-ghost use Rattle.tables.specs.Memory.{sides, wide, part_size};
-ghost use Rattle.tables.specs.Memory.{part, kept_in, PutReady, WithFact, Each};
+ghost use Rattle.tables.specs.Memory.{sides, wide, part_size, part, kept_in, PutReady, WithFact, Each};
 
 use super::TableLayout;
 use hierarchy::Fact;
@@ -14,17 +13,16 @@ use summary::Group;
 impl TableLayout {
     // Where the group of a fact stands in the table of a part, or where it would.
     pub fn find(&self, part: &[u64], fact: Fact) -> Result<usize, usize>
-        requires { (Sound (wide self.now) part.now) × (length (entry_of (wide self.now) fact).place ≡ wide self.now) }
+        requires { Sound (wide self.now) part.now }
         ensures { Found (place_at (sides self.now) (take (wide self.now) part.now) (entry_of (wide self.now) fact).place) (table_in (wide self.now) part.now) result }
     {
-        let levels = self.levels_in(part);
-        let place = self.dims.place_at(levels, fact.place);
+        let place = self.place_in(part, fact);
         self.shape.find(part, place)
     }
 
     // Whether the table in a part has a group at a fact's place, or room for one.
     pub fn takes(&self, part: &[u64], fact: Fact) -> bool
-        requires { (Sound (wide self.now) part.now) × ((length part.now ≡ part_size self.now) × (length (entry_of (wide self.now) fact).place ≡ wide self.now)) }
+        requires { (Sound (wide self.now) part.now) × (length part.now ≡ part_size self.now) }
         ensures { result ≡ nat_le (length (with_fact (sides self.now) (entry_of (wide self.now) fact) (kept_in (wide self.now) part.now)).cells) self.now.groups }
     {
         self.find(part, fact).is_ok() || self.shape.count(part) < self.groups
@@ -37,12 +35,7 @@ impl TableLayout {
         requires ready { (i : ℕ) → i < slice_index tables.old 0 → PutReady self.now (entry_of (wide self.now) fact) (part (part_size self.now) i tables.old) }
         ensures { Each (part_size self.now) (WithFact self.now (entry_of (wide self.now) fact)) (slice_index tables.old 0) tables.old tables.new }
     {
-        let length = self.part_length();
-        let kept = self.kept(tables);
-        for t in 0..kept {
-            let at = self.at(t);
-            self.put(&mut tables[at..at + length], fact);
-        }
+        self.each_part(tables, |part| self.put(part, fact));
     }
 
     // Puts a fact into the table in a part.
@@ -50,15 +43,7 @@ impl TableLayout {
         requires { PutReady self.now (entry_of (wide self.now) fact) part.old }
         ensures { WithFact self.now (entry_of (wide self.now) fact) part.old part.new }
     {
-        let levels = self.levels_in(part);
-        let place = self.dims.place_at(levels, fact.place);
-        self.shape.put(
-            part,
-            Group {
-                place,
-                count: 1,
-                sum: fact.amount,
-            },
-        );
+        let place = self.place_in(part, fact);
+        self.shape.put(part, Group::one(place, fact.amount));
     }
 }

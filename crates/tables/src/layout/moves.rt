@@ -1,11 +1,10 @@
 // Tables that are found, put behind the others, and removed.
-ghost use Rattle.std.specs.Prelude.{◌≡◌, ◌+◌, ◌<◌, ◌≤◌, true, false, [], ◌∷◌, ◌++◌, length, take, Some, None, slice_index};
+ghost use Rattle.std.specs.Prelude.{◌≡◌, ◌+◌, ◌<◌, ◌≤◌, [], ◌∷◌, ◌++◌, length, take, slice_index};
 ghost use Rattle.std.specs.List.{remove};
 ghost use Rattle.hierarchy.specs.Levels.{same};
 ghost use Rattle.hierarchy.specs.Views.{levels_of};
 ghost use Rattle.model.specs.House.{kept_at, answer, source};
-ghost use Rattle.tables.specs.Memory.{sides, wide, part_size};
-ghost use Rattle.tables.specs.Memory.{part};
+ghost use Rattle.tables.specs.Memory.{sides, wide, part_size, part};
 ghost use Rattle.tables.specs.Ready.{kept_tables, Ready, Left};
 
 use super::TableLayout;
@@ -17,12 +16,8 @@ impl TableLayout {
         requires { wide self.now ≤ length table.now }
         ensures { result ≡ same (levels_of (wide self.now) levels) (take (wide self.now) table.now) }
     {
-        for i in 0..self.dims.width() {
-            if levels.at[i] != table[i] {
-                return false;
-            }
-        }
-        true
+        let width = self.dims.width();
+        levels.at[..width] == table[..width]
     }
 
     // Where a table at these levels is kept.
@@ -30,12 +25,7 @@ impl TableLayout {
         requires { Ready self.now tables.now }
         ensures { result ≡ kept_at (levels_of (wide self.now) levels) 0 (kept_tables self.now tables.now) }
     {
-        for i in 0..tables[0] as usize {
-            if self.is_at(self.part(tables, i), levels) {
-                return Some(i);
-            }
-        }
-        None
+        (0..self.kept(tables)).find(|&i| self.is_at(self.part(tables, i), levels))
     }
 
     // Puts the totals at levels, made of the table that serves, behind the other tables.
@@ -47,7 +37,7 @@ impl TableLayout {
     {
         let from = self.source(tables, levels);
         self.roll(tables, from, levels, row);
-        let kept = tables[0] as usize;
+        let kept = self.kept(tables);
         let at = self.at(kept);
         tables[at..at + self.part_length()].copy_from_slice(row);
         tables[0] = kept as u64 + 1;
@@ -58,7 +48,7 @@ impl TableLayout {
         requires { (Ready self.now tables.old) × (i < slice_index tables.old 0) }
         ensures { Left self.now (remove (kept_tables self.now tables.old) i) tables.new }
     {
-        let kept = tables[0] as usize;
+        let kept = self.kept(tables);
         tables.copy_within(self.at(i + 1)..self.at(kept), self.at(i));
         tables[0] = kept as u64 - 1;
     }

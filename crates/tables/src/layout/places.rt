@@ -1,15 +1,16 @@
 // Where the parts of the tables lie.
-ghost use Rattle.std.specs.Prelude.{◌≡◌, ◌+◌, ◌*◌, ◌^◌, ◌<◌, ◌≤◌, length, take, slice_index};
+ghost use Rattle.std.specs.Prelude.{◌≡◌, ℕ, ◌+◌, ◌*◌, ◌^◌, ◌<◌, ◌≤◌, length, take, slice_index};
+ghost use Rattle.std.specs.Fn.{FnOnceTakesAtMut, FnOnceReturnsAtMut};
 ghost use Rattle.hierarchy.specs.Dimensions.{four};
-ghost use Rattle.summary.specs.Memory.{start};
-ghost use Rattle.tables.specs.Memory.{wide, part_size};
-ghost use Rattle.tables.specs.Memory.{part};
+ghost use Rattle.hierarchy.specs.Places.{place_at};
+ghost use Rattle.hierarchy.specs.Views.{entry_of};
+ghost use Rattle.summary.specs.Memory.{start, Sound};
+ghost use Rattle.tables.specs.Memory.{sides, wide, part_size, part, Each};
 
 use super::super::room::Room;
 use super::TableLayout;
 use crate::TABLES;
-use hierarchy::levels::methods::padded;
-use hierarchy::{Dimensions, Levels};
+use hierarchy::{Dimensions, Fact, Levels};
 use summary::Shape;
 
 impl TableLayout {
@@ -45,7 +46,7 @@ impl TableLayout {
         1 + self.part_length() * TABLES
     }
 
-    // Where the part at i starts.
+    // Where the part at i starts. A line like those of a group and of a fact: see `Shape::start`.
     pub(super) fn at(&self, i: usize) -> usize
         requires { i ≤ 16 }
         ensures { (result ≡ 1 + part_size self.now * i) × (result < 2 ^ 41) }
@@ -62,8 +63,24 @@ impl TableLayout {
         &tables[at..at + self.part_length()]
     }
 
+    // Changes the part of each kept table.
+    pub(super) fn each_part<F: Fn(&mut [u64])>(&self, tables: &mut [u64], change: F)
+        requires long { length tables.old ≡ 1 + part_size self.now * 16 }
+        requires few { slice_index tables.old 0 ≤ 16 }
+        requires ready { (i : ℕ) → i < slice_index tables.old 0 → FnOnceTakesAtMut F.FnOnce change (part (part_size self.now) i tables.old) }
+        ensures { Each (part_size self.now) (λ xs ys. FnOnceReturnsAtMut F.FnOnce change xs tt ys) (slice_index tables.old 0) tables.old tables.new }
+    {
+        let length = self.part_length();
+        let kept = self.kept(tables);
+        // Behind `chunks_exact_mut` nothing would be known of what the parts hold.
+        for t in 0..kept {
+            let at = self.at(t);
+            change(&mut tables[at..at + length]);
+        }
+    }
+
     // How many tables are kept.
-    pub(super) fn kept(&self, tables: &[u64]) -> usize
+    pub fn kept(&self, tables: &[u64]) -> usize
         requires { 0 < length tables.now }
         ensures { result ≡ slice_index tables.now 0 }
     {
@@ -74,8 +91,14 @@ impl TableLayout {
     pub(super) fn levels_in(&self, part: &[u64]) -> Levels
         ensures { result.at ≡ four (take (wide self.now) part.now) }
     {
-        Levels {
-            at: padded(part, self.dims.width()),
-        }
+        Levels::front(part, self.dims.width())
+    }
+
+    // The place of a fact at the levels of the table in a part.
+    pub(super) fn place_in(&self, part: &[u64], fact: Fact) -> [u64; 4]
+        requires { Sound (wide self.now) part.now }
+        ensures { take (wide self.now) result ≡ place_at (sides self.now) (take (wide self.now) part.now) (entry_of (wide self.now) fact).place }
+    {
+        self.dims.place_at(self.levels_in(part), fact.place)
     }
 }

@@ -1,5 +1,5 @@
 // Facts and levels read for these tables.
-ghost use Rattle.std.specs.Prelude.{◌≡◌, length, take, Some, None, Ok, Err, slice_index};
+ghost use Rattle.std.specs.Prelude.{◌≡◌, take, Some, None, Ok, Err, slice_index};
 ghost use Rattle.hierarchy.specs.Dimensions.{four};
 ghost use Rattle.hierarchy.specs.Levels.{same, finest};
 ghost use Rattle.hierarchy.specs.Reading.{levels_refusal, levels_in, fact_refusal};

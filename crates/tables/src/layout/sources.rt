@@ -5,8 +5,7 @@ ghost use Rattle.hierarchy.specs.Views.{levels_of};
 ghost use Rattle.totals.specs.Tables.{rolled};
 ghost use Rattle.summary.specs.Memory.{Sound, start, row_over};
 ghost use Rattle.model.specs.House.{source};
-ghost use Rattle.tables.specs.Memory.{sides, wide};
-ghost use Rattle.tables.specs.Memory.{part};
+ghost use Rattle.tables.specs.Memory.{sides, wide, part};
 ghost use Rattle.tables.specs.Ready.{kept_tables, Ready, kept_table};
 
 use super::TableLayout;
@@ -45,13 +44,13 @@ impl TableLayout {
         requires { Ready self.now tables.now }
         ensures { (result < slice_index tables.now 0) × (kept_table self.now result tables.now ≡ source (sides self.now) (levels_of (wide self.now) levels) (kept_tables self.now tables.now)) }
     {
-        let mut best = 0;
-        for i in 1..tables[0] as usize {
+        (1..self.kept(tables)).fold(0, |best, i| {
             if self.serves_better(tables, levels, i, best) {
-                best = i;
+                i
+            } else {
+                best
             }
-        }
-        best
+        })
     }
 
     // Rolls the table at i up to levels, into a row with room for as many groups.

@@ -5,7 +5,7 @@ ghost use Rattle.tables.specs.Rooms.{limits_of, row_of, standard};
 use super::Room;
 
 // No room is for more facts, or for more groups a table.
-pub const MOST: usize = 4294967296;
+const MOST: usize = 1 << 32;
 
 impl Room {
     // Room for so many facts and so many groups a table, if that is not too much.

@@ -1,44 +1,37 @@
-use Rattle.std.proofs.Common.{◌≡◌, ℕ, ◌-◌, ◌++◌, length, take, vec_len, string_bytes, sym, ap, ◌∙◌, arith}
-use Rattle.std.proofs.lemmas.Result.{IfOk-from_err}
-use Rattle.tables.specs.Rooms.{limits_of, row_of}
-use Rattle.warehouse.specs.Views.{dims_in, limits_in, house_of}
-use Rattle.journal.specs.Deeds.{deeds_in, is_whole}
-use Rattle.journal.specs.Replies.{replies}
+use Rattle.std.proofs.Common.{take, vec_len, string_bytes, sym, refl, ap, ◌∙◌}
+use Rattle.journal.specs.Deeds.{is_whole}
 use Rattle.journal.proofs.Deeds.{whole_read}
 use Rattle.journal.proofs.Telling.{turned, run_ended, run_whole, begun}
 use Rattle.journal.proofs.day.run.Goals as goal
 
-pub returns-in_err-act : goal.returns-in_err-act
-returns-in_err-act c = IfOk-from_err c.from_residual-in_err-act.result _ c.from_residual-in_err-act.ensures.0
-
 pub loop-step-preserved : goal.loop-step-preserved
 loop-step-preserved c =
+    let w = c.width-width.result in
+    let desk = c.loop-step.desk in
+    let rest = c.loop-step.rest.now in
+    let step = c.in-Some.step in
     let reads = c.in-Some.ensures in
     let done = c.in_ok-act.ensures in
-    let count = c.in-Some.step.count in
-    let numbers : take (count - 0) c.in-Some.step.numbers ≡ take count c.in-Some.step.numbers =
-    let e : count - 0 ≡ count = omega arith in ap (λ (k : ℕ). take k c.in-Some.step.numbers) e in (
-      done.2 ∙ c.loop-step.invariant.0,
-      c.loop-step.invariant.1,
-      turned c.loop-step.house c.act.new.house c.width-width.result (length c.deref_mut.result.now) (vec_len c.in_ok-out.out) c.loop-step.rest.now c.in-Some.step.rest.now
-          c.in-Some.step.kind count c.in-Some.step.numbers (take (count - 0) c.in-Some.step.numbers) (string_bytes c.loop-step.text)
-          (string_bytes c.act.new.text) _ reads (c.deref_mut.ensures.len ∙ c.loop-step.invariant.1) numbers done.0 done.1 done.2 c.loop-step.invariant.2,
-      sym (whole_read c.width-width.result c.loop-step.rest.now c.in-Some.step.kind count c.in-Some.step.numbers c.in-Some.step.rest.now reads)
-          ∙ c.loop-step.invariant.3,
-    )
+    let before = c.loop-step.invariant in
+    record {
+      layout = done.same.0 ∙ before.layout;
+      out = done.same.1 ∙ before.out;
+      told =
+          turned desk.house c.act.new.self.house w (vec_len desk.out) (vec_len c.in_ok-desk.desk.out) rest step.rest.now step.kind step.count step.numbers (take step.count step.numbers)
+          (string_bytes desk.text) (string_bytes c.act.new.self.text) _ reads before.out refl done.told done.house done.same.0 before.told;
+      whole = sym (whole_read w rest step.kind step.count step.numbers step.rest.now reads) ∙ before.whole;
+    }
 
-pub returns : goal.returns
-returns c =
-    let none = c.in_default.ensures in
-    let start = c.in_ok-house.ensures in
-    let long : vec_len c.in_ok-out.out ≡ row_of c.args.room = omega (arith, c.in_ok-out.ensures.len, c.row_length.ensures) in
-    let first = begun c.in_ok-house.house c.with_room.result c.args.dims (limits_of c.args.room) c.width-width.result (row_of c.args.room) c.args.bytes.now
-    (string_bytes c.args.text.now) start.0 start.1 c.with_room.ensures.0 c.with_room.ensures.1 c.width-width.ensures.0 in
-    let before = c.loop-step.invariant.2
-    ∙ (ap (λ (n : ℕ). string_bytes c.args.text.now ++ replies (dims_in c.in_ok-house.house) (limits_in c.in_ok-house.house) (house_of c.in_ok-house.house) (deeds_in c.width-width.result n c.args.bytes.now)) long
-    ∙ first) in (
-      run_ended c.loop-step.house c.width-width.result (vec_len c.in_ok-out.out) c.loop-step.rest.now (string_bytes c.loop-step.text) _ none before,
-      c.is_empty.ensures
-          ∙ (run_whole c.width-width.result c.loop-step.rest.now none
-          ∙ (c.loop-step.invariant.3 ∙ ap (λ (v : ℕ). is_whole v c.args.bytes.now) c.width-width.ensures.0)),
-    )
+pub returns-clause-text : goal.returns-clause-text
+returns-clause-text c =
+    let w = c.width-width.result in
+    let desk = c.in_ok-desk.desk in
+    let first = c.in_ok-desk.ensures in
+    run_ended c.loop-step.desk.house w (vec_len desk.out) c.loop-step.rest.now (string_bytes c.loop-step.desk.text) _ c.in_default.ensures
+    (c.loop-step.invariant.told ∙ begun _ _ _ _ _ _ _ _ _ _ c.args.bytes.now (string_bytes desk.text) first.dims first.room.0 first.none.0 c.width-width.ensures.0 first.room.1 first.none.1)
+
+pub returns-clause-whole : goal.returns-clause-whole
+returns-clause-whole c =
+    c.is_empty-whole.ensures
+    ∙ (run_whole c.width-width.result c.loop-step.rest.now c.in_default.ensures
+    ∙ (c.loop-step.invariant.whole ∙ ap (λ v. is_whole v c.args.bytes.now) c.width-width.ensures.0))

@@ -6,11 +6,14 @@ use Rattle.journal.proofs.day.run.Given as goal
 
 abbrev pub invariant-loop-step : goal.invariant-loop-step
 invariant-loop-step l =
-    (l.house.layout ≡ l.initial.house.layout)
-    × (vec_len l.out ≡ vec_len l.initial.out)
-    × (string_bytes l.text ++ replies (dims_in l.house) (limits_in l.house) (house_of l.house) (deeds_in l.width (vec_len l.initial.out) l.rest)
-    ≡ string_bytes l.initial.text ++ replies (dims_in l.initial.house) (limits_in l.initial.house) (house_of l.initial.house) (deeds_in l.width (vec_len l.initial.out) l.initial.rest))
-    × (is_whole l.width l.rest ≡ is_whole l.width l.initial.rest)
+    let start = l.initial.desk in
+    record {
+      layout : l.desk.house.layout ≡ start.house.layout;
+      out : vec_len l.desk.out ≡ vec_len start.out;
+      told : string_bytes l.desk.text ++ replies (dims_in l.desk.house) (limits_in l.desk.house) (house_of l.desk.house) (deeds_in l.width (vec_len start.out) l.rest)
+          ≡ string_bytes start.text ++ replies (dims_in start.house) (limits_in start.house) (house_of start.house) (deeds_in l.width (vec_len start.out) l.initial.rest);
+      whole : is_whole l.width l.rest ≡ is_whole l.width l.initial.rest;
+    }
 
 abbrev pub decreases-loop-step : goal.decreases-loop-step
 decreases-loop-step l = length l.rest

@@ -1,4 +1,4 @@
-use Rattle.std.proofs.Common.{◌≤◌, [], ◌∷◌, length, take, arith}
+use Rattle.std.proofs.Common.{◌≤◌, length, take, arith}
 use Rattle.hierarchy.specs.Views.{dims_of}
 use Rattle.summary.specs.Memory.{table_in}
 use Rattle.rollup.specs.Entry.{most_groups}
@@ -17,5 +17,6 @@ put-requires c =
     let e = c.of.ensures in
     let few : length (table_in k xs) ≤ most_groups = omega (arith, table_length k xs, t.1, t.2) in
     let sums = good_total (table_in k xs) t.4 few in
-    let within = at_within (take k (c.args.sale.0 ∷ (c.args.sale.1 ∷ (0 ∷ (0 ∷ []))))) (table_in k xs) in
-    record { sound = rw e t.3; fits = rw e (omega (arith, sums.0, within.0), omega (arith, sums.1, within.1)) }
+    let within = at_within (take k c.one-group.result.place) (table_in k xs) in
+    let one = c.one-group.ensures in
+    record { sound = rw e t.3; fits = rw e (omega (arith, sums.0, within.0, one.1), omega (arith, sums.1, within.1, one.2)) }

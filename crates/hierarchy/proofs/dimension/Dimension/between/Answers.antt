@@ -1,29 +1,28 @@
--- Each turn multiplies by one factor more; the product of a part is at most that of all, which is below 2^32.
-use Rattle.std.proofs.Common.{◌+◌, sym, ◌∙◌, arith}
-use Rattle.hierarchy.specs.Dimensions.{product}
+-- The product of a part of the factors is at most that of all, which is below 2^32.
+use Rattle.std.proofs.Common.{◌≡◌, ◌<◌, ◌^◌, drop, take, ◌∙◌, rules, arith}
 use Rattle.hierarchy.specs.Views.{factors_of}
-use Rattle.hierarchy.proofs.Products.{between_step, product_between, none_between, whole_between}
+use Rattle.hierarchy.proofs.Products.{product_fits, product_of, same_factors, part_small}
+use Rattle.std.proofs.lemmas.Iterator.{YieldsList-from_slice}
 use Rattle.hierarchy.proofs.dimension.Dimension.between.Goals as goal
 
-pub loop-i-init : goal.loop-i-init
-unfolding product
-loop-i-init c = (sym (none_between (factors_of c.args.self) c.args.from c.args.from (omega arith)), omega arith)
+pub product-product-requires-clause-fits : goal.product-product-requires-clause-fits
+product-product-requires-clause-fits c =
+    let small = part_small c.args.self c.args.from c.args.to in
+    let rest : c.iter.result.rest.now ≡ drop c.args.from (take c.args.to (factors_of c.args.self)) =
+    c.iter.ensures.rest ∙ rw c.min.ensures (same_factors c.args.self c.args.from c.args.to c.requires) in
+    product_fits (YieldsList-from_slice (drop c.args.from (take c.args.to (factors_of c.args.self))) rest) (2 ^ 64) small.0 (omega (arith, small.1))
 
-pub overflow_mul-product : goal.overflow_mul-product
-overflow_mul-product c =
-    let step = between_step c.args.self.count c.args.self.factors c.args.from c.loop-i.i c.loop-i.product
-    c.loop-i.auto.i (omega arith) c.loop-i.invariant.0 in
-    omega (arith, step, product_between (factors_of c.args.self) c.args.from (c.loop-i.i + 1) (omega arith) c.args.self.positive, c.args.self.small)
-
-pub loop-i-preserved : goal.loop-i-preserved
-loop-i-preserved c = (
-  between_step c.args.self.count c.args.self.factors c.args.from c.loop-i.i c.loop-i.product c.loop-i.auto.i (omega arith)
-      c.loop-i.invariant.0,
-  omega arith,
-)
+pub unwrap-requires : goal.unwrap-requires
+unwrap-requires c =
+    let rest : c.iter.result.rest.now ≡ drop c.args.from (take c.args.to (factors_of c.args.self)) =
+    c.iter.ensures.rest ∙ rw c.min.ensures (same_factors c.args.self c.args.from c.args.to c.requires) in
+    let is = product_of (YieldsList-from_slice (drop c.args.from (take c.args.to (factors_of c.args.self))) rest) _ c.product-product.ensures.ran in
+    let some : 0 < c.product-product.result = rw is (part_small c.args.self c.args.from c.args.to).0 in
+    search rules
 
 pub returns : goal.returns
 returns c =
-    let e = whole_between (factors_of c.args.self) c.args.from c.args.to c.loop-i.i c.loop-i.auto.i c.loop-i-test.false c.loop-i.invariant.1 in
-    let positive = (product_between (factors_of c.args.self) c.args.from c.loop-i.i c.loop-i.auto.i c.args.self.positive).0 in
-    (c.loop-i.invariant.0 ∙ e, rw c.loop-i.invariant.0 positive)
+    let rest : c.iter.result.rest.now ≡ drop c.args.from (take c.args.to (factors_of c.args.self)) =
+    c.iter.ensures.rest ∙ rw c.min.ensures (same_factors c.args.self c.args.from c.args.to c.requires) in
+    let value = rw c.unwrap.ensures at c.new.ensures in
+    value ∙ product_of (YieldsList-from_slice (drop c.args.from (take c.args.to (factors_of c.args.self))) rest) _ c.product-product.ensures.ran

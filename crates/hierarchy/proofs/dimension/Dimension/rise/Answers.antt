@@ -15,4 +15,4 @@ pub returns : goal.returns
 unfolding up
 returns c n =
     let long : length (factors_of c.args.self) ≡ c.args.self.count = search (rules, length-take-le) in
-    rw (le-ltb (length (factors_of c.args.self)) c.args.to (omega arith), ← c.between.ensures.0)
+    rw (le-ltb (length (factors_of c.args.self)) c.args.to (omega arith), ← c.between.ensures)

@@ -9,6 +9,9 @@ unfolding carried
 returns c ns =
     let from : length c.args.from.at ≡ 4 = search rules in
     let to : length c.args.to.at ≡ 4 = search rules in
-    ascent_is (dims_of c.args.self.now) c.args.self.now.width c.rise.result c.rise-2.result c.rise-3.result c.rise-4.result c.args.from.at
-    c.args.to.at ns (dims_length c.args.self.now) c.args.self.now.few from to c.rise.ensures c.rise-2.ensures c.rise-3.ensures
-    c.rise-4.ensures
+    let made = c.from_fn-each.ensures.items in
+    ascent_is (dims_of c.args.self.now) c.args.self.now.width c.from_fn-each.result c.args.from.at c.args.to.at ns (dims_length c.args.self.now)
+    c.args.self.now.few made.long from to
+    (λ i r h k n.
+    let (p, q, call) = made.at i r h in
+    search rules)

@@ -1,28 +1,15 @@
-use Rattle.std.proofs.Common.{◌≡◌, Some, sym, ap, ◌∙◌, inl, inr, arith}
-use Rattle.hierarchy.proofs.Scans.{wrong_here, wrong_on, wrong_more, wrong_end}
+use Rattle.std.proofs.Common.{take, ◌∙◌, rules}
+use borrow.Author.Tests.{tests}
+use Rattle.std.proofs.lemmas.Iterator.{YieldsList-from_slice, YieldsList-from_take}
+use Rattle.std.proofs.lemmas.Iterator.Adapters.{position_from-zero}
+use Rattle.std.proofs.lemmas.Iterator.Search.{position_from_yields_List}
+use Rattle.hierarchy.proofs.Scans.{large, wrong_is}
 use Rattle.hierarchy.proofs.fact.methods.wrong_number.Goals as goal
-use Rattle.hierarchy.proofs.fact.methods.wrong_number.Goals.{then-i-row-via-then-i-row, then-i-row-via-else-i-row+then-row-i-ge-LIMIT}
-
-pub returns-then-i-row : goal.returns-then-i-row
-returns-then-i-row c =
-    sym (c.loop-i.invariant.0 ∙ wrong_here c.args.count c.args.row.now c.loop-i.i c.loop-i-test.true
-    (elim c.then-i-row.branch [
-      | then-i-row-via-then-i-row w ↦ inl w.if-i-row.true
-      | then-i-row-via-else-i-row+then-row-i-ge-LIMIT w ↦ inr (w.if-i-row.false, w.if-row-i-ge-LIMIT.true)
-    ]))
-
-pub loop-i-preserved : goal.loop-i-preserved
-loop-i-preserved c = (
-  c.loop-i.invariant.0 ∙ wrong_on c.args.count c.args.row.now c.loop-i.i c.loop-i-test.true c.if-i-row.false c.if-row-i-ge-LIMIT.false,
-  omega (arith, c.if-i-row.false),
-)
-
-pub returns-then-row-count : goal.returns-then-row-count
-returns-then-row-count c =
-    let e : c.loop-i.i ≡ c.args.count = omega (arith, c.loop-i.auto.i-end, c.loop-i-test.false) in
-    sym (c.loop-i.invariant.0 ∙ wrong_more c.args.count c.args.row.now c.loop-i.i c.loop-i-test.false (omega (arith, c.if-row-count.true)) ∙ ap Some e)
 
 pub returns : goal.returns
 returns c =
-    let e : c.loop-i.i ≡ c.args.count = omega (arith, c.loop-i.auto.i-end, c.loop-i-test.false) in
-    sym (c.loop-i.invariant.0 ∙ wrong_end c.args.count c.args.row.now c.loop-i.i c.loop-i-test.false (omega (arith, c.if-row-count.false)))
+    let first =
+    position_from_yields_List large _ _ c.position-large.result c.position-large.ensures.ran
+    (YieldsList-from_take c.args.count (YieldsList-from_slice c.args.row.now cc) cc) (λ x b q k. search (rules, tests))
+    ∙ position_from-zero large (take c.args.count c.args.row.now) in
+    rw (c.or.ensures, first, c.then_some.ensures, c.min.ensures) (wrong_is c.args.count c.args.row.now)

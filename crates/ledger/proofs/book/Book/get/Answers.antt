@@ -1,5 +1,5 @@
-use Rattle.std.proofs.Common.{sym, ap, ◌∙◌}
-use Rattle.ledger.specs.Book.{entry_in}
+use Rattle.std.proofs.Common.{arith}
+use Rattle.hierarchy.proofs.Fours.{place_read}
 use Rattle.ledger.proofs.Rows.{entry_at}
 use Rattle.ledger.proofs.book.Book.get.Goals as goal
 
@@ -7,4 +7,6 @@ pub returns : goal.returns
 returns c =
     let w = c.args.self.width in
     let h = entry_at w c.args.i c.args.row.now c.requires.1 in
-    record { fact = c.read_part.ensures.fact ∙ (ap (entry_in w) c.part.ensures.0 ∙ sym h); rest = c.read_part.ensures.rest }
+    let p = place_read w c.part-part.result.now c.padded.result c.args.self.most (omega (arith, c.part-part.ensures.1)) c.padded.ensures in
+    let q = c.part-part.ensures.0 in
+    record { fact = cc; rest = p.1 }

@@ -9,8 +9,8 @@ use Rattle.ledger.proofs.book.Book.remove.Goals as goal
 pub delete-requires : goal.delete-requires
 delete-requires c = (c.requires, omega (arith, c.in-Some.ensures, order_length c.args.self.width c.args.row.now))
 
-pub returns-in-Some : goal.returns-in-Some
-returns-in-Some c =
+pub returns : goal.returns
+returns c =
     let w = c.args.self.width in
     let xs = c.args.row.now in
     let e = entry_of w c.args.fact in
@@ -23,7 +23,7 @@ returns-in-Some c =
       holds = c.delete.ensures.holds;
     }
 
-pub returns-in-None : goal.returns-in-None
-returns-in-None c =
-    let none = c.in-None.ensures in
+pub returns-in_default : goal.returns-in_default
+returns-in_default c =
+    let none = c.in_default.ensures in
     record { told = sym (le-ltb 0 _ (omega (arith, none))); after = refl; facts = sym (none_gone _ _ none); holds = c.requires }

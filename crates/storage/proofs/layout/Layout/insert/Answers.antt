@@ -1,34 +1,21 @@
-use Rattle.std.proofs.Common.{ℕ, sym, subst}
-use Rattle.ledger.specs.Book.{Holds}
-use Rattle.storage.proofs.Inserts.{book_free, few_kept, all_ready, inserted_done}
+use Rattle.std.proofs.lemmas.Result.{err_from_is_err_and}
+use Rattle.storage.proofs.Inserts.{all_ready, inserted_done}
 use Rattle.storage.proofs.Rebuilt.{does_refused}
-use Rattle.model.specs.House.{insert}
 use Rattle.storage.proofs.layout.Layout.insert.Goals as goal
 
-pub insert-requires : goal.insert-requires
-insert-requires c =
-    let ok = c.in-Ok.ensures in
-    record {
-      holds = subst (λ (n : ℕ). Holds n c.args.self.now.book.room c.args.book.now) (sym c.args.self.now.booked) c.requires.booked;
-      free = book_free c.args.self.now c.args.book.now c.args.tables.now c.requires c.args.numbers.now c.in-Ok.fact ok.0 ok.1;
-    }
+pub put_all-requires-clause-ready : goal.put_all-requires-clause-ready
+put_all-requires-clause-ready c =
+    let ok = c.in_ok-fact.ensures in
+    all_ready c.args.self.now c.args.book.now c.args.tables.now c.requires c.args.numbers.now c.in_ok-fact.fact ok.0 ok.1
 
-pub put_all-requires : goal.put_all-requires
-put_all-requires c =
-    let ok = c.in-Ok.ensures in
-    record {
-      long = c.requires.long;
-      few = few_kept c.args.self.now c.args.book.now c.args.tables.now c.requires c.args.numbers.now c.in-Ok.fact ok.0 ok.1;
-      ready = all_ready c.args.self.now c.args.book.now c.args.tables.now c.requires c.args.numbers.now c.in-Ok.fact ok.0 ok.1;
-    }
+pub returns-in_err-fact : goal.returns-in_err-fact
+returns-in_err-fact c =
+    let p = err_from_is_err_and c.from_residual.result c.from_residual.ensures.1 in
+    rw (p.1, p.2) (does_refused c.requires c.in_err-fact.ensures)
 
-pub returns-in-Err : goal.returns-in-Err
-returns-in-Err c =
-    does_refused c.args.self.now (insert c.args.numbers.now) c.in-Err.refusal c.args.book.now c.args.tables.now c.requires c.in-Err.ensures
-
-pub returns-in-Ok : goal.returns-in-Ok
-returns-in-Ok c =
-    let ok = c.in-Ok.ensures in
-    inserted_done c.args.self.now c.args.book.now c.args.tables.now c.requires c.args.numbers.now c.in-Ok.fact ok.0 ok.1
+pub returns : goal.returns
+returns c =
+    let ok = c.in_ok-fact.ensures in
+    inserted_done c.args.self.now c.args.book.now c.args.tables.now c.requires c.args.numbers.now c.in_ok-fact.fact ok.0 ok.1
     c.args.self.now.book.width c.insert.new.row c.put_all.new.tables c.args.self.now.booked c.insert.ensures.facts c.insert.ensures.holds
     c.put_all.auto.tables c.put_all.ensures

@@ -12,10 +12,7 @@ returns-then-is_full c =
     ∙ ap (λ n. Some (LedgerFull n)) (sym c.room.ensures)
 
 pub takes-requires : goal.takes-requires
-takes-requires c =
-    let read = c.in_ok-fact.ensures in
-    let entry = read_entry (sides c.args.self.now) c.args.numbers.now c.in_ok-fact.fact (dims_few c.args.self.now.tables.dims) read.0 read.1 read.2 in
-    (rw c.part.ensures.0 (first_sound c.args.self.now c.args.book.now c.args.tables.now c.requires), (c.part.ensures.1, entry.1))
+takes-requires c = (rw c.part.ensures.0 (first_sound c.args.self.now c.args.book.now c.args.tables.now c.requires), c.part.ensures.1)
 
 pub returns-then-not-takes : goal.returns-then-not-takes
 returns-then-not-takes c =

@@ -18,14 +18,14 @@ returns-in-Some c =
     let at : kept_at (levels_in (sides l) c.args.numbers.now) 0 (kept_tables l.tables c.args.tables.now) ≡ Some c.in-Some.place = rw (← m) (sym c.in-Some.ensures) in
     rw (there, at)
 
-pub returns-then-tables-ge-TABLES : goal.returns-then-tables-ge-TABLES
-returns-then-tables-ge-TABLES c =
+pub returns-then-kept-ge-TABLES : goal.returns-then-kept-ge-TABLES
+returns-then-kept-ge-TABLES c =
     λ book.
     let l = c.args.self.now in
     let there = c.in_ok-levels.ensures.0 in
     let m = read_are l.tables c.in_ok-levels.levels c.args.numbers.now there c.in_ok-levels.ensures.1 in
     let at : kept_at (levels_in (sides l) c.args.numbers.now) 0 (kept_tables l.tables c.args.tables.now) ≡ None = rw (← m) (sym c.in_default.ensures) in
-    let full = le-leb 16 (length (kept_tables l.tables c.args.tables.now)) (omega (arith, tables_length (wide l) (part_size l) c.args.tables.now, c.if-tables-ge-TABLES.true)) in
+    let full = le-leb 16 (length (kept_tables l.tables c.args.tables.now)) (omega (arith, tables_length (wide l) (part_size l) c.args.tables.now, c.if-kept-ge-TABLES.true, c.kept-kept.ensures)) in
     rw (there, at, full)
 
 pub returns : goal.returns
@@ -35,4 +35,4 @@ returns c =
     let there = c.in_ok-levels.ensures.0 in
     let m = read_are l.tables c.in_ok-levels.levels c.args.numbers.now there c.in_ok-levels.ensures.1 in
     let at : kept_at (levels_in (sides l) c.args.numbers.now) 0 (kept_tables l.tables c.args.tables.now) ≡ None = rw (← m) (sym c.in_default.ensures) in
-    (keep_accepted (sides l) (limits l) (house_in l book c.args.tables.now) c.args.numbers.now there at (omega (arith, tables_length (wide l) (part_size l) c.args.tables.now, c.if-tables-ge-TABLES.false)), m)
+    (keep_accepted (sides l) (limits l) (house_in l book c.args.tables.now) c.args.numbers.now there at (omega (arith, tables_length (wide l) (part_size l) c.args.tables.now, c.if-kept-ge-TABLES.false, c.kept-kept.ensures)), m)

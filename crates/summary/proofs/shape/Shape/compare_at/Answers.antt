@@ -1,17 +1,14 @@
-use Rattle.std.proofs.Common.{◌≡◌, ◌-◌, get_or, take, sym, ap, ◌∙◌, subst, arith}
-use Rattle.hierarchy.specs.Dimensions.{Row}
+use Rattle.std.proofs.Common.{◌≡◌, ◌-◌, get_or, take, sym, ap, ◌∙◌, arith}
 use Rattle.totals.specs.Tables.{Cell}
-use Rattle.summary.specs.Memory.{Compared, table_in, none}
+use Rattle.summary.specs.Memory.{table_in, none}
 use Rattle.summary.proofs.Rows.{cell_at}
+use Rattle.summary.proofs.Spots.{compared}
 use Rattle.summary.proofs.shape.Shape.compare_at.Goals as goal
 
 pub returns : goal.returns
 returns c =
     let w = c.args.self.width in
-    let r = c.compare.result in
-    let q = take w c.args.place in
     let e : w - 0 ≡ w = omega arith in
-    let at : take w c.part-part.result.now ≡ (get_or (table_in w c.args.row.now) c.args.i none).place =
-    ap (take w) c.part-part.ensures.0 ∙ sym (ap (λ (g : Cell). g.place) (cell_at w c.args.i c.args.row.now c.requires.1)) in
-    let h : Compared (take w c.part-part.result.now) q r = rw e at c.compare.ensures in
-    subst (λ (p : Row). Compared p q r) at h
+    let at : take w c.part.result.now ≡ (get_or (table_in w c.args.row.now) c.args.i none).place =
+    ap (take w) c.part.ensures.0 ∙ sym (ap (λ (g : Cell). g.place) (cell_at w c.args.i c.args.row.now c.requires.1)) in
+    compared _ _ _ (rw (e, at) at c.cmp.ensures)

@@ -1,16 +1,13 @@
-use Rattle.std.proofs.Common.{sym, ◌∙◌, arith}
-use Rattle.summary.specs.Memory.{table_in, AllGood}
-use Rattle.summary.proofs.Rows.{table_length}
-use Rattle.summary.proofs.Checked.{good_sound}
+use Rattle.std.proofs.Common.{◌≡◌, true, false, rules}
+use borrow.Author.Tests.{tests}
+use Rattle.std.proofs.lemmas.Iterator.{first_from_Range}
+use Rattle.summary.specs.Memory.{table_in, bad}
+use Rattle.summary.proofs.Checked.{first_bad}
 use Rattle.summary.proofs.shape.Shape.first_bad_group.Goals as goal
-
-pub returns-then-is_bad : goal.returns-then-is_bad
-returns-then-is_bad c =
-    let n = table_length c.args.self.width c.args.row.now in
-    (omega arith, sym c.is_bad.ensures ∙ c.if-is_bad.true, c.loop-i.invariant)
 
 pub returns : goal.returns
 returns c =
-    let n = table_length c.args.self.width c.args.row.now in
-    let all : AllGood (table_in c.args.self.width c.args.row.now) = λ j l. c.loop-i.invariant j (omega arith) in
-    (good_sound c.args.self.width c.args.row.now c.requires all, all)
+    let w = c.args.self.width in
+    let xs = c.args.row.now in
+    let h = first_from_Range _ _ _ _ (λ k. bad (table_in w xs) k ≡ true) (λ k. bad (table_in w xs) k ≡ false) c.find.ensures.ran (λ k q m. search (rules, tests)) (λ k q m. search (rules, tests)) in
+    first_bad w xs c.count.result _ c.count.ensures c.requires h

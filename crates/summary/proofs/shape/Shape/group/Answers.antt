@@ -7,6 +7,4 @@ pub returns : goal.returns
 returns c =
     let w = c.args.self.width in
     let h = cell_at w c.args.i c.args.row.now c.requires.1 in
-    let p = c.part.ensures.0 in
-    let q = c.read_part.ensures.cell in
-    record { cell = q ∙ (ap (cell_in w) p ∙ sym h); rest = c.read_part.ensures.rest }
+    record { cell = c.read.ensures.cell ∙ (ap (cell_in w) c.part.ensures.0 ∙ sym h); rest = c.read.ensures.rest }

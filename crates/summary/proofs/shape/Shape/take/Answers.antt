@@ -46,9 +46,9 @@ returns-else-old-le1 c =
     let after : c.replace.new.row ≡ holding w (take_out p c.args.amount t) xs = cc in
     record { told = sym there; after = after; sound = sound_take_kept w p c.args.amount xs _ true c.requires after }
 
-pub returns-in-Err : goal.returns-in-Err
-returns-in-Err c =
+pub returns-in_default : goal.returns-in_default
+returns-in_default c =
     let w = c.args.self.width in
     let t = table_in w c.args.row.now in
-    let none-there = held_would (take w c.args.place) t c.in-Err.field-0 c.in-Err.ensures in
+    let none-there = held_would (take w c.args.place) t c.in_default.field-0 c.in_default.ensures in
     record { told = sym none-there; after = refl; sound = c.requires }

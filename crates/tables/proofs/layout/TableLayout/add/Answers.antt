@@ -6,21 +6,15 @@ use Rattle.hierarchy.specs.Views.{levels_of}
 use Rattle.summary.specs.Memory as summary
 use Rattle.totals.specs.Tables.{rolled}
 use Rattle.model.specs.House.{Kept, answer}
-use Rattle.tables.specs.Memory.{sides, wide, part_size}
-use Rattle.tables.specs.Memory.{part, kept_in}
+use Rattle.tables.specs.Memory.{sides, wide, part_size, part, kept_in}
 use Rattle.tables.specs.Ready.{kept_tables}
 use Rattle.tables.proofs.Places.{within}
 use Rattle.tables.proofs.Moves.{table_fits, rolled_kept, pushed}
 use Rattle.tables.proofs.layout.TableLayout.add.Goals as goal
 
-pub roll-requires : goal.roll-requires
-roll-requires c =
-    let from = c.source-from.ensures.0 in
-    record {
-      ready = c.requires.ready;
-      there = from;
-      room = rw c.requires.row (table_fits c.args.self.now c.args.tables.now c.source-from.result c.requires.ready from);
-    }
+pub roll-requires-clause-room : goal.roll-requires-clause-room
+roll-requires-clause-room c =
+    rw c.requires.row (table_fits c.args.self.now c.args.tables.now c.source-from.result c.requires.ready c.source-from.ensures.0)
 
 pub slice_bounds-copy_from_slice-end : goal.slice_bounds-copy_from_slice-end
 slice_bounds-copy_from_slice-end c =
@@ -28,7 +22,7 @@ slice_bounds-copy_from_slice-end c =
     let p = c.at-at.ensures.0 in
     let q = c.part_length.ensures.0 in
     let long = c.requires.ready.long in
-    rw (p, q, long) (within s (get_or c.args.tables.now 0 0) c.requires.room)
+    rw (p, c.kept-kept.ensures, q, long) (within s (get_or c.args.tables.now 0 0) c.requires.room)
 
 pub returns : goal.returns
 returns c =
@@ -49,8 +43,8 @@ returns c =
     let p = c.at-at.ensures.0 in
     let q = c.part_length.ensures.0 in
     let size : (c.at-at.result + c.part_length.result) - c.at-at.result ≡ s = omega (arith, q) in
-    let e : set (put_mid c.at-at.result ((c.at-at.result + c.part_length.result) - c.at-at.result) xs row) 0 (n + 1)
-    ≡ set (put_mid (1 + s * n) s xs row) 0 (n + 1) = rw (size, p) in
+    let e : set (put_mid c.at-at.result ((c.at-at.result + c.part_length.result) - c.at-at.result) xs row) 0 (c.kept-kept.result + 1)
+    ≡ set (put_mid (1 + s * n) s xs row) 0 (n + 1) = rw (size, p, c.kept-kept.ensures) in
     let row-sound : summary.Sound w row = rw copied c.roll.ensures.sound in
     let four : length c.args.levels.at ≡ 4 = search rules in
     let long : length ls ≡ w = length-take-le w c.args.levels.at (omega (arith, four, dims_few l.dims)) in

@@ -1,11 +1,7 @@
 use Rattle.std.proofs.Common.{sym, ◌∙◌}
 use Rattle.summary.proofs.Rows.{table_length}
-use Rattle.tables.specs.Memory.{wide, part_size}
-use Rattle.tables.specs.Memory.{part}
+use Rattle.tables.specs.Memory.{wide, part_size, part}
 use Rattle.tables.proofs.layout.TableLayout.groups_at.Goals as goal
-
-pub count-requires : goal.count-requires
-count-requires c = rw (c.args.self.now.shaped, c.part.ensures.0) (c.requires.0.sound c.args.i c.requires.1).whole
 
 pub returns : goal.returns
 returns c =

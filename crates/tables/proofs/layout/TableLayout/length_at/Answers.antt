@@ -10,6 +10,3 @@ start-requires c =
     let l = c.args.self.now in
     let fits = table_fits l c.args.tables.now c.args.i c.requires.0 c.requires.1 in
     rw (l.shaped, c.groups_at.ensures) (omega (arith, fits, size_bound (wide l) l.groups (dims_few l.dims) l.bounded))
-
-pub returns : goal.returns
-returns c = rw (c.args.self.now.shaped, c.groups_at.ensures) at c.start.ensures

@@ -2,8 +2,7 @@ use Rattle.std.proofs.Common.{◌≡◌, true, false, take, sym, ◌∙◌, arit
 use Rattle.std.proofs.lemmas.Bool.{and_left}
 use Rattle.hierarchy.specs.Levels.{no_coarser}
 use Rattle.hierarchy.specs.Views.{levels_of}
-use Rattle.tables.specs.Memory.{sides, wide, part_size}
-use Rattle.tables.specs.Memory.{part}
+use Rattle.tables.specs.Memory.{sides, wide, part_size, part}
 use Rattle.tables.proofs.Scans.{levels_are}
 use Rattle.tables.proofs.layout.TableLayout.serves_better.Goals as goal
 

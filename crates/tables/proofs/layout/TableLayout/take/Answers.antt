@@ -1,20 +1,15 @@
+use Rattle.std.proofs.Common.{◌≡◌, length, arith, rules}
+use Rattle.std.proofs.lemmas.List.{length-take-le}
 use Rattle.hierarchy.specs.Views.{entry_of}
 use Rattle.hierarchy.proofs.Widths.{dims_few}
 use Rattle.tables.specs.Memory.{sides, wide}
-use Rattle.tables.proofs.Deeds.{sound_there, take_done, part_place, numbers_there, levels_there}
+use Rattle.tables.proofs.Deeds.{take_done}
 use Rattle.tables.proofs.layout.TableLayout.take.Goals as goal
-
-pub take-requires : goal.take-requires
-take-requires c =
-    sound_there (sides c.args.self.now) c.args.self.now.shape.width c.args.self.now.shaped (dims_few c.args.self.now.dims)
-    (entry_of (wide c.args.self.now) c.args.fact) c.args.part.now c.requires.0 c.requires.1
 
 pub returns : goal.returns
 returns c =
-    let at = part_place (sides c.args.self.now) c.args.part.now c.args.fact.place c.levels_in-levels.result.at c.place_at-place.result
-    (dims_few c.args.self.now.dims) (levels_there (wide c.args.self.now) c.args.part.now c.requires.0)
-    (numbers_there (wide c.args.self.now) c.args.fact.place c.requires.1) c.levels_in-levels.ensures c.place_at-place.ensures in
-    let r = take_done (sides c.args.self.now) c.args.self.now.shape.width c.args.self.now.shaped (dims_few c.args.self.now.dims)
-    (entry_of (wide c.args.self.now) c.args.fact) c.args.part.now c.requires.0 c.requires.1 c.place_at-place.result at c.take.new.row c.take.result
-    c.take.ensures.told c.take.ensures.after c.take.ensures.sound in
+    let l = c.args.self.now in
+    let four : length c.args.fact.place ≡ 4 = search rules in
+    let r = take_done (sides l) l.shape.width l.shaped (dims_few l.dims) (entry_of (wide l) c.args.fact) c.args.part.now c.requires (length-take-le (wide l) c.args.fact.place (omega (arith, dims_few l.dims)))
+    c.place_in-place.result c.place_in-place.ensures c.take.new.row c.take.result c.take.ensures.told c.take.ensures.after c.take.ensures.sound in
     record { table = r.0; sound = r.1 }

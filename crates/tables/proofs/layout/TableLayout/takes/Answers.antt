@@ -7,10 +7,10 @@ pub returns-then-is_ok : goal.returns-then-is_ok
 returns-then-is_ok c =
     let l = c.args.self.now in
     takes_found (sides l) l.shape.width l.shaped (entry_of (wide l) c.args.fact) c.args.part.now l.groups c.find.result
-    c.requires.0 c.requires.1.0 c.find.ensures c.is_ok.result c.is_ok.ensures.value c.if-is_ok.true
+    c.requires.0 c.requires.1 c.find.ensures c.is_ok.result c.is_ok.ensures.value c.if-is_ok.true
 
 pub returns-else-is_ok : goal.returns-else-is_ok
 returns-else-is_ok c =
     let l = c.args.self.now in
     takes_new (sides l) l.shape.width l.shaped (entry_of (wide l) c.args.fact) c.args.part.now l.groups c.find.result
-    c.requires.0 c.requires.1.0 c.find.ensures c.is_ok.result c.count.result c.is_ok.ensures.value c.if-is_ok.false c.count.ensures
+    c.requires.0 c.requires.1 c.find.ensures c.is_ok.result c.count.result c.is_ok.ensures.value c.if-is_ok.false c.count.ensures
