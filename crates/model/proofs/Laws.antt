@@ -20,7 +20,8 @@ use Rattle.totals.proofs.Order.{order}
 use Rattle.totals.proofs.Theory.{table_none, table_more, table_total, coarser_smaller}
 use Rattle.model.specs.House.{Kept, House, Limits, insert, delete, keep, drop_table, ask, with_fact, without_fact, first_full, kept_at, dropped, source, table_length, or_else, refuse_if, refusal, step}
 use Rattle.model.specs.Promises.{Sound, Whole}
-use Rattle.model.proofs.Steps.{step_done, step_refused, cases_refusal, none_some, levels_there, keep_done}
+use Rattle.hierarchy.proofs.Theory.{levels_read}
+use Rattle.model.proofs.Steps.{step_done, step_refused, cases_refusal, none_some, keep_done}
 use Rattle.model.proofs.Source.{Good, answer_right}
 use Rattle.model.proofs.Facts.{all_count, all_sum}
 use Rattle.model.proofs.Sound.{sound_front, sound_good, with_good, dropped_here, dropped_on}
@@ -159,7 +160,7 @@ pub step_keep : (ss : Dims) (lim : Limits) (h : House) (xs : Row) → Sound ss h
     → step ss lim h (keep xs)
     ≡ record { facts = h.facts; kept = h.kept ++ (record { levels = levels_in ss xs; cells = table ss (levels_in ss xs) h.facts } ∷ []) }
 step_keep ss lim h xs s e =
-    let there = levels_there ss xs (keep_done ss lim h xs e).0 in
+    let there = levels_read ss xs (keep_done ss lim h xs e).0 in
     rw (step_done ss lim h (keep xs) e, answer_right ss (levels_in ss xs) h.facts h.kept (sound_front ss h s) there (sound_good ss h s))
 
 pub step_drop : (ss : Dims) (lim : Limits) (h : House) (xs : Row) (i : ℕ) → kept_at (levels_in ss xs) 0 h.kept ≡ Some i

@@ -16,7 +16,8 @@ use Rattle.totals.proofs.Put.{take_out_none, take_out_last, take_out_less, take_
 use Rattle.totals.proofs.Theory.{table_none, table_more, taken_back}
 use Rattle.model.specs.House.{Kept, House, Limits, Deed, insert, delete, keep, drop_table, ask, empty, with_fact, without_fact, first_full, dropped, source, answer, refusal, after, step, end}
 use Rattle.model.specs.Promises.{Sound, Whole, Valid}
-use Rattle.model.proofs.Steps.{step_done, step_refused, cases_refusal, cond_none, levels_there, fact_whole, insert_done, delete_done, keep_done, drop_done}
+use Rattle.hierarchy.proofs.Theory.{levels_read}
+use Rattle.model.proofs.Steps.{step_done, step_refused, cases_refusal, cond_none, fact_whole, insert_done, delete_done, keep_done, drop_done}
 use Rattle.model.proofs.Source.{Front, Good, source_all, answer_right}
 use Rattle.model.proofs.Facts.{all_without, without_length}
 
@@ -133,7 +134,7 @@ after_sound ss lim h (delete xs) e s =
     (sound_good ss h s)))
 after_sound ss lim h (keep xs) e s =
     let ls = levels_in ss xs in
-    let there = levels_there ss xs (keep_done ss lim h xs e).0 in
+    let there = levels_read ss xs (keep_done ss lim h xs e).0 in
     let k : Kept = record { levels = ls; cells = answer ss ls h.kept } in
     let front = sound_front ss h s in
     let good = sound_good ss h s in
@@ -183,7 +184,7 @@ after_holds ss lim h (delete xs) e s =
 after_holds ss lim h (keep xs) e s =
     let g = keep_done ss lim h xs e in
     let ls = levels_in ss xs in
-    let there = levels_there ss xs g.0 in
+    let there = levels_read ss xs g.0 in
     let long = levels_length ss ls there in
     let k : Kept = record { levels = ls; cells = answer ss ls h.kept } in
     let from = source ss ls h.kept in

@@ -1,12 +1,12 @@
 -- What it says of a deed that it is refused, or that it is not. Assumes nothing.
-use Rattle.std.proofs.Common.{◌≡◌, ℕ, zero, suc, ◌+◌, ◌^◌, ◌<◌, ◌≤◌, Bool, true, false, cond, ltb, leb, ◌⊎◌, [], ◌∷◌, length, get_or, take, Some, None, Option, sym, refl, ap, inl, inr, arith}
+use Rattle.std.proofs.Common.{◌≡◌, ℕ, zero, suc, ◌<◌, ◌≤◌, Bool, true, false, cond, leb, ◌⊎◌, length, Some, None, Option, sym, refl, inl, inr, arith}
 use Rattle.std.specs.Option.{option_map}
-use Rattle.std.proofs.lemmas.List.{length-take-le, get_or-take}
-use Rattle.std.proofs.lemmas.Bool.{true≢false, leb-false, ltb-true, ltb-false, eqb-false, and_parts, and_from}
-use Rattle.hierarchy.specs.Dimensions.{Dims, Row, last_level}
-use Rattle.hierarchy.specs.Levels.{same, are_levels, finest}
+use Rattle.std.proofs.lemmas.Bool.{leb-false, ltb-false, eqb-false}
+use Rattle.hierarchy.specs.Dimensions.{Dims, Row}
+use Rattle.hierarchy.specs.Levels.{same, finest}
 use Rattle.hierarchy.specs.Facts.{copies}
-use Rattle.hierarchy.specs.Reading.{first_missing, levels_refusal, levels_in, first_wrong, fact_refusal, entry_in}
+use Rattle.hierarchy.specs.Reading.{levels_refusal, levels_in, fact_refusal, entry_in}
+use Rattle.hierarchy.proofs.Theory.{fact_read}
 use Rattle.replies.specs.declared.Refusal.{Refusal}
 use Rattle.model.specs.House.{House, Limits, Deed, insert, delete, keep, drop_table, ask, refused, source, first_full, kept_at, table_length, or_else, refuse_if, not_kept, refusal, after, answered, step, told}
 use Rattle.model.specs.Promises.{Whole}
@@ -57,53 +57,9 @@ pub cond_none : {A : Type 0} (v : Bool) (o : Option A) (x : A) → cond v o (Som
 cond_none true o x h = (refl, h)
 cond_none false o x h = none_some x (sym h)
 
--- levels that are not refused are there, and levels that are there are not refused
-missing_none : (i : ℕ) (ss : Dims) (xs : Row) → first_missing i ss xs ≡ None → are_levels ss (take (length ss) xs) ≡ true
-unfolding first_missing are_levels
-missing_none i [] xs h = refl
-missing_none i (fs ∷ ss) [] h = none_some i (sym h)
-missing_none i (fs ∷ ss) (l ∷ ls) h =
-    let r = cond_none (leb l (last_level fs)) (first_missing (suc i) ss ls) i h in and_from _ _ r.0 (missing_none (suc i) ss ls r.1)
-
-none_missing : (i : ℕ) (ss : Dims) (xs : Row) → are_levels ss (take (length ss) xs) ≡ true → first_missing i ss xs ≡ None
-unfolding first_missing are_levels
-none_missing i [] xs h = refl
-none_missing i (fs ∷ ss) [] h = absurd (true≢false (sym h))
-none_missing i (fs ∷ ss) (l ∷ ls) h =
-    let a = and_parts (leb l (last_level fs)) (are_levels ss (take (length ss) ls)) h in
-    rw a.0 (none_missing (suc i) ss ls a.1)
-
-pub levels_there : (ss : Dims) (xs : Row) → levels_refusal ss xs ≡ None → are_levels ss (levels_in ss xs) ≡ true
-levels_there ss xs h = missing_none 0 ss xs (mapped_none _ (first_missing 0 ss xs) h)
-
-pub levels_accepted : (ss : Dims) (xs : Row) → are_levels ss (levels_in ss xs) ≡ true → levels_refusal ss xs ≡ None
-levels_accepted ss xs h = rw (none_missing 0 ss xs h)
-
--- a row of k numbers, each below 2^32
-wrong_none : (i k : ℕ) (xs : Row) → first_wrong i k xs ≡ None → (length xs ≡ k) × ((j : ℕ) → j < k → get_or xs j 0 < 2 ^ 32)
-unfolding first_wrong
-wrong_none i zero [] h = (refl, λ j l. absurd (omega arith))
-wrong_none i zero (x ∷ xs) h = none_some i (sym h)
-wrong_none i (suc k) [] h = none_some i (sym h)
-wrong_none i (suc k) (x ∷ xs) h =
-    let c = cond_none (ltb x (2 ^ 32)) (first_wrong (suc i) k xs) i h in
-    let r = wrong_none (suc i) k xs c.1 in
-    (ap suc r.0, each c.0 r.1)
-  where
-    each : ltb x (2 ^ 32) ≡ true → ((j : ℕ) → j < k → get_or xs j 0 < 2 ^ 32) → (j : ℕ) → j < suc k → get_or (x ∷ xs) j 0 < 2 ^ 32
-    each e rest zero l = ltb-true x (2 ^ 32) e
-    each e rest (suc j) l = rest j (omega arith)
-
 -- a fact that is not refused has as many numbers as there are dimensions, each below 2^32, and so is its amount
 pub fact_whole : (ss : Dims) (xs : Row) → fact_refusal ss xs ≡ None → Whole ss (entry_in ss xs)
-fact_whole ss xs h =
-    let r = wrong_none 0 (length ss + 1) xs (mapped_none _ (first_wrong 0 (length ss + 1) xs) h) in
-    let long = length-take-le (length ss) xs (omega arith) in
-    record {
-      wide = long;
-      small = λ j k. rw (get_or-take (length ss) xs j 0 (omega arith)) (r.1 j (omega arith));
-      amount_small = r.1 (length ss) (omega arith);
-    }
+fact_whole ss xs h = let r = fact_read ss xs h in record { wide = r.0; small = λ j k. r.2 j (omega arith); amount_small = r.1 }
 
 -- what each deed that is not refused has
 pub insert_done : (ss : Dims) (lim : Limits) (h : House) (xs : Row) → refusal ss lim h (insert xs) ≡ None

@@ -17,7 +17,8 @@ use Rattle.totals.proofs.Put.{put_none, put_length}
 use Rattle.totals.proofs.Theory.{table_more, table_none_empty, taken_back}
 use Rattle.model.specs.House.{Kept, House, Limits, Deed, insert, delete, keep, drop_table, ask, shown, refused, empty, with_fact, without_fact, source, answer, table_length, refusal, after, answered, unless, step, told, end}
 use Rattle.model.specs.Promises.{reached, Sound, Whole, AlwaysSound, FactsWhole, TotalsRight, AlwaysAnswered, comes, goes, came, went, FactsBalance, ComesAndGoes, facts_only, but_for_work, TablesUnseen, RefusedUntouched, NeverNothing, WithinLimits, WarehouseRight, Valid}
-use Rattle.model.proofs.Steps.{step_done, step_refused, told_done, told_refused, cases_refusal, levels_there, insert_done, delete_done, ask_done}
+use Rattle.hierarchy.proofs.Theory.{levels_read}
+use Rattle.model.proofs.Steps.{step_done, step_refused, told_done, told_refused, cases_refusal, insert_done, delete_done, ask_done}
 use Rattle.model.proofs.Source.{Good, source_all, source_finer, source_least, source_cost, answer_right}
 use Rattle.model.proofs.Facts.{copies_none, copies_more, copies_here, copies_without, without_here}
 use Rattle.model.proofs.Laws.{insert_refusal, delete_accepted}
@@ -61,7 +62,7 @@ sound_totals : (ss : Dims) (lim : Limits) (h : House) → Sound ss h → (xs : R
 sound_totals ss lim h s xs n t work q =
     let a = shown_done ss lim h xs n t work q in
     let ls = levels_in ss xs in
-    let there = levels_there ss xs (ask_done ss lim h xs n a.0).0 in
+    let there = levels_read ss xs (ask_done ss lim h xs n a.0).0 in
     let long = levels_length ss ls there in
     let front = sound_front ss h s in
     let good = sound_good ss h s in
@@ -97,7 +98,7 @@ pub ask_answered : (ss : Dims) (lim : Limits) (h : House) → Sound ss h → (xs
     → told ss lim h (ask xs n) ≡ shown (table ss (levels_in ss xs) h.facts) (length (source ss (levels_in ss xs) h.kept).cells)
 ask_answered ss lim h s xs n l room =
     let ls = levels_in ss xs in
-    let there = levels_there ss xs l in
+    let there = levels_read ss xs l in
     let work = length (source ss ls h.kept).cells in
     let more = mul-le-mul_left (length ss + 2) (source_fits ss h ls s there) in
     let fits : ltb n (table_length (length ss) work) ≡ false = le-ltb _ _ (omega (arith, more)) in

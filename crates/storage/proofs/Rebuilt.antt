@@ -17,7 +17,8 @@ use Rattle.storage.specs.Memory.{sides, wide, limits, part_size, house_in, Memor
 use Rattle.tables.specs.Memory.{part}
 use Rattle.tables.specs.Ready.{kept_table, kept_tables, Ready, Left}
 use Rattle.storage.specs.declared.layout.Layout.{Layout}
-use Rattle.model.proofs.Steps.{step_done, step_refused, told_done, told_refused, levels_there}
+use Rattle.hierarchy.proofs.Theory.{levels_read}
+use Rattle.model.proofs.Steps.{step_done, step_refused, told_done, told_refused}
 use Rattle.model.proofs.Sound.{step_holds}
 use Rattle.model.proofs.Laws.{ask_accepted, cells_bounded}
 use Rattle.tables.proofs.Places.{tables_length, table_at}
@@ -121,7 +122,7 @@ asked_shown l xs ms i n book tables out out₁ there e is room written =
     let same_kept : k ≡ k₁ = is ∙ ap (λ (ns : Row). source ss ns (kept_tables l.tables tables)) e in
     let fits : table_length (wide l) (length k₁.cells) ≤ n = rw (← same_kept) room in
     let q = told_done ss (limits l) h (ask xs n) (ask_accepted ss (limits l) h xs n there fits) in
-    let long = levels_length ss ls (levels_there ss xs there) in (
+    let long = levels_length ss ls (levels_read ss xs there) in (
       ap (λ (x : Kept). Shown (length x.cells)) same_kept ∙ sym (ap reply_of q),
       written ∙ (row_shown (wide l) ss ls ms k k₁ out long e same_kept ∙ sym (ap (λ (t : Told). row_after ls t out) q)),
     )

@@ -18,7 +18,7 @@ use Rattle.tables.specs.Memory.{sides, wide, part, kept_in, tables_in}
 use Rattle.tables.specs.declared.layout.TableLayout.{TableLayout}
 use Rattle.model.proofs.Laws.{kept_at_end, kept_at_here, kept_at_on}
 use Rattle.tables.proofs.Places.{tables_length, table_at}
-use Rattle.model.proofs.Steps.{levels_there}
+use Rattle.hierarchy.proofs.Theory.{levels_read}
 use Rattle.model.proofs.Source.{Takes, better_none, better_take, better_pass, source_more}
 
 -- levels read from a row are its first numbers
@@ -30,7 +30,7 @@ pub read_are : (l : TableLayout) (r : Levels) (xs : Row) → levels_refusal (sid
     → levels_of (wide l) r ≡ levels_in (sides l) xs
 read_are l r xs h e =
     ap (take (wide l)) e
-    ∙ whole_four (wide l) (levels_in (sides l) xs) (dims_few l.dims) (levels_length (sides l) (levels_in (sides l) xs) (levels_there (sides l) xs h))
+    ∙ whole_four (wide l) (levels_in (sides l) xs) (dims_few l.dims) (levels_length (sides l) (levels_in (sides l) xs) (levels_read (sides l) xs h))
 
 -- only the finest levels are no coarser than the finest
 at_most_0 : (n : ℕ) → leb n 0 ≡ eqb n 0
