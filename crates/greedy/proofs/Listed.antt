@@ -1,10 +1,10 @@
 -- All levels as a list, made by one after the other. Assumes nothing.
-use Rattle.std.proofs.Common.{◌≡◌, ℕ, ◌+◌, ◌<◌, ◌≤◌, List, [], ◌∷◌, ◌++◌, map, replicate, length, get_or, refl, ap, ◌∙◌, arith, below_more}
+use Rattle.std.proofs.Common.{◌≡◌, ℕ, ◌+◌, ◌<◌, ◌≤◌, List, [], ◌∷◌, ◌++◌, map, replicate, length, get_or, sym, refl, ap, ◌∙◌, arith, below_more}
 use Rattle.std.specs.List.{range_with_len, zip}
-use Rattle.std.proofs.lemmas.List.{length_push, get_or_push, get_or_append_left}
+use Rattle.std.proofs.lemmas.List.{length-map, length_push, get_or_push, get_or_append_left}
 use Rattle.std.proofs.lemmas.Simd.{map-map}
-use Rattle.std.proofs.lemmas.List.FromFn.{length-map-range_with_len, get_or-map-range_with_len}
-use Rattle.std.proofs.lemmas.Slice.Zip.{firsts-zip, seconds-zip, length-zip}
+use Rattle.std.proofs.lemmas.List.FromFn.{length-range_with_len, length-map-range_with_len, get_or-map-range_with_len}
+use Rattle.std.proofs.lemmas.Slice.Zip.{firsts-zip, seconds-zip}
 use Rattle.hierarchy.specs.Dimensions.{Dims, four}
 use Rattle.hierarchy.specs.Levels.{total_levels, nth_levels}
 use Rattle.hierarchy.specs.Views.{levels_of}
@@ -55,7 +55,19 @@ replicated : {X : Type 0} (c : ℕ) (xs : List X) → map (λ _. c) xs ≡ repli
 replicated c [] = refl
 replicated c (x ∷ xs) = ap (λ ys. c ∷ ys) (replicated c xs)
 
-pub candidates_listed : (ls : List Levels) (zs : List ℕ) (c : ℕ) (vs : List Candidate) → length zs ≡ length ls → vs ≡ map (candidate c) (zip ls zs)
-    → (all_levels_of vs ≡ ls) × (sizes_of vs ≡ zs) × (costs_of vs ≡ replicate (length ls) c)
-candidates_listed ls zs c vs l e =
-    (ap all_levels_of e ∙ (map-map _ (candidate c) (zip ls zs) ∙ firsts-zip ls zs l), ap sizes_of e ∙ (map-map _ (candidate c) (zip ls zs) ∙ seconds-zip ls zs l), ap costs_of e ∙ (map-map _ (candidate c) (zip ls zs) ∙ (replicated c (zip ls zs) ∙ ap (λ n. replicate n c) (length-zip ls zs ∙ omega arith))))
+-- the candidate at an index of all levels
+abbrev pub candidate_at : Dims → ℕ → ℕ × ℕ → Candidate
+candidate_at ss cost p = candidate cost (nth_at ss p.0, p.1)
+
+pub candidates_listed : (ss : Dims) (n : ℕ) (zs : List ℕ) (c : ℕ) (vs : List Candidate) → length ss ≤ 4 → n ≡ total_levels ss → 1 ≤ n → n ≤ 1296 → length zs ≡ n
+    → vs ≡ map (candidate_at ss c) (zip (range_with_len 0 n) zs)
+    → AllLevels ss (all_levels_of vs) × (sizes_of vs ≡ zs) × (costs_of vs ≡ replicate (length vs) c)
+candidates_listed ss n zs c vs few is some most l e =
+    let pairs = zip (range_with_len 0 n) zs in
+    let long : length zs ≡ length (range_with_len 0 n) = l ∙ sym (length-range_with_len 0 n) in
+    let levels : all_levels_of vs ≡ map (nth_at ss) (range_with_len 0 n) =
+    ap all_levels_of e ∙ (map-map _ (candidate_at ss c) pairs ∙ (sym (map-map (nth_at ss) (λ (p : ℕ × ℕ). p.0) pairs) ∙ ap (map (nth_at ss)) (firsts-zip (range_with_len 0 n) zs long))) in (
+      all_listed ss n (all_levels_of vs) few is some most levels,
+      ap sizes_of e ∙ (map-map _ (candidate_at ss c) pairs ∙ seconds-zip (range_with_len 0 n) zs long),
+      ap costs_of e ∙ (map-map _ (candidate_at ss c) pairs ∙ (replicated c pairs ∙ ap (λ k. replicate k c) (sym (ap length e ∙ length-map pairs (candidate_at ss c))))),
+    )

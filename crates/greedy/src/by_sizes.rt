@@ -41,15 +41,16 @@ pub fn all_levels(heap: Global, dims: &Dimensions) -> Result<Vec<Levels>, AllocE
 }
 
 // All levels with their sizes. While none are taken, every question costs as much as the finest table has groups.
-fn candidates(heap: Global, all: &[Levels], sizes: &[u64]) -> Result<Vec<Candidate>, AllocError>
-    requires { (length sizes.now ≡ length all.now) × (0 < length sizes.now) }
-    ensures { IfOk result (λ v. (all_levels_of v.items ≡ all.now) × (sizes_of v.items ≡ sizes.now) × (costs_of v.items ≡ replicate (length all.now) (slice_index sizes.now 0))) }
+fn candidates(heap: Global, dims: &Dimensions, sizes: &[u64]) -> Result<Vec<Candidate>, AllocError>
+    requires { Counted (total_levels (dims_of dims.now)) sizes.now }
+    ensures { IfOk result (λ v. AllLevels (dims_of dims.now) (all_levels_of v.items) × (sizes_of v.items ≡ sizes.now) × (costs_of v.items ≡ replicate (length v.items) (slice_index sizes.now 0))) }
 {
+    let count = Levels::count(dims);
     let finest = sizes[0];
-    all.iter()
+    (0..count)
         .zip(sizes)
-        .map(|(levels, size)| Candidate {
-            levels: *levels,
+        .map(|(i, size)| Candidate {
+            levels: Levels::nth(dims, i).unwrap(),
             size: *size,
             cost: finest,
         })
@@ -134,7 +135,6 @@ pub fn choose_by_sizes(
     requires { Counted (total_levels (dims_of dims.now)) sizes.now }
     ensures { IfOk result (λ v. (vec_len v ≡ n) × ((sz : Row → ℕ) → SizesAre (dims_of dims.now) sz sizes.now → TurnsAre (dims_of dims.now) sz v.items)) }
 {
-    let levels = all_levels(heap, dims)?;
-    let mut all = candidates(heap, &levels, sizes)?;
+    let mut all = candidates(heap, dims, sizes)?;
     take_turns(heap, dims, &mut all, n)
 }

@@ -47,6 +47,14 @@ finest_zeros (a ∷ b ∷ c ∷ []) h = refl
 finest_zeros (a ∷ b ∷ c ∷ d ∷ []) h = refl
 finest_zeros (a ∷ b ∷ c ∷ d ∷ e ∷ ss) h = absurd (omega arith)
 
+-- what holds of each of four holds of those below four
+pub by_four : (P : ℕ → Type 0) → P 0 → P 1 → P 2 → P 3 → (i : ℕ) → i < 4 → P i
+by_four P a b c d zero h = a
+by_four P a b c d (suc zero) h = b
+by_four P a b c d (suc (suc zero)) h = c
+by_four P a b c d (suc (suc (suc zero))) h = d
+by_four P a b c d (suc (suc (suc (suc i)))) h = absurd (omega arith)
+
 -- four rises, of which the first w count, one a dimension
 pub ascent_is : (ss : Dims) (w : ℕ) (rs : List Rise) (ls ms ns : Row) → length ss ≡ w → w ≤ 4 → length rs ≡ 4 → length ls ≡ 4 → length ms ≡ 4
     → ((i : ℕ) (r : Rise) → i < 4 → i < length ss → (n : ℕ) → risen (get_or rs i r) n ≡ up (get_or ss i []) (get_or ls i 0) (get_or ms i 0) n)

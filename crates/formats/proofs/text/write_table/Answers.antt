@@ -1,5 +1,7 @@
-use Rattle.std.proofs.Common.{◌≡◌, ◌+◌, ◌++◌, [], ◌∷◌, length, get_or, string_bytes, ◌∙◌, subst, arith, length-append, append-nil, sym}
-use Rattle.summary.specs.Memory.{table_in, cell_of, none}
+use Rattle.std.proofs.Common.{◌≡◌, ◌+◌, ◌*◌, ◌++◌, [], ◌∷◌, length, get_or, take, drop, string_bytes, ◌∙◌, subst, arith, length-append, append-nil, sym}
+use Rattle.std.proofs.lemmas.Grind.{common_steps}
+use Rattle.std.specs.Slice.Iter.{chunks_exact_rest}
+use Rattle.summary.specs.Memory.{stride, count_in, table_in, cell_of, none}
 use Rattle.summary.proofs.Rows.{table_length}
 use Rattle.summary.proofs.Walks.{first_group, no_group, next_group}
 use Rattle.formats.specs.Text.{line_text}
@@ -8,9 +10,12 @@ use Rattle.formats.proofs.text.write_table.Goals as goal
 
 pub loop-part-init : goal.loop-part-init
 loop-part-init c =
-    let chunks = c.chunks_exact-part-items.ensures in
-    let rest = first_group c.args.shape.width c.args.row.now _ (chunks.rest ∙ c.groups.ensures) in
-    rw c.into_iter-part-iterator.ensures.into_iter_gives (sym (append-nil (string_bytes c.args.text.now)), omega arith, chunks.size ∙ c.stride.ensures, rest)
+    let w = c.args.shape.width in
+    let row = c.args.row.now in
+    let chunks = c.chunks_exact-part-items in
+    let all : chunks_exact_rest chunks.result ≡ take (stride w * count_in w row) (drop (w + 1) row) = grind (arith, common_steps) in
+    rw c.into_iter-part-iterator.ensures.into_iter_gives
+    (sym (append-nil (string_bytes c.args.text.now)), omega arith, chunks.ensures.size ∙ c.stride.ensures, first_group w row _ all)
 
 pub loop-part-preserved : goal.loop-part-preserved
 loop-part-preserved c =

@@ -1,9 +1,12 @@
-use Rattle.std.proofs.Common.{◌≡◌, ◌+◌, ◌-◌, ◌*◌, ◌≤◌, ◌++◌, [], ◌∷◌, length, Some, None, sym, refl, ap, ◌∙◌, rules, arith, length-append}
+use Rattle.std.proofs.Common.{◌≡◌, ℕ, ◌+◌, ◌-◌, ◌*◌, ◌<◌, ◌≤◌, true, List, ◌++◌, [], ◌∷◌, map, length, get_or, take, drop, Some, None, sym, refl, ap, ◌∙◌, rules, arith, length-append}
+use Rattle.std.proofs.lemmas.Grind.{common_steps}
 use Rattle.std.proofs.lemmas.List.{length-set}
 use Rattle.std.proofs.lemmas.Result.{err_from_is_err_and}
-use Rattle.hierarchy.specs.Views.{dims_of}
+use Rattle.hierarchy.specs.Reading.{is_whole, dims_from, dims_refusal}
+use Rattle.hierarchy.specs.Views.{factors_of, dims_of}
+use Rattle.hierarchy.specs.declared.dimension.Dimension.{Dimension}
 use Rattle.replies.specs.declared.Refusal.TheVariants.{BadDimension}
-use Rattle.hierarchy.proofs.Readings.{part_turn, part_end, part_reads, part_bad, reads_more, read_all, read_bad}
+use Rattle.hierarchy.proofs.Readings.{Reads, part_turn, part_end, part_reads, part_bad, reads_more, read_all, read_bad}
 use Rattle.hierarchy.proofs.dimensions.Dimensions.read.Goals as goal
 
 pub loop-i-init : goal.loop-i-init
@@ -55,7 +58,13 @@ loop-i-preserved c =
     )
 
 pub invariant_of-result : goal.invariant_of-result
-invariant_of-result c = record { some = c.in_ok-width.ensures.2; few = c.in_ok-width.ensures.3; four = c.loop-i.invariant.0 }
+invariant_of-result c = record { some = c.in_ok-width.ensures.2; few = c.in_ok-width.ensures.3; four = grind (arith, common_steps, c.loop-i.invariant.0) }
+
+-- what is kept of what was read
+read_kept : (w : ℕ) (xs : List ℕ) (ds kept : List Dimension) → kept ≡ ds → w ≤ length ds → w ≡ get_or xs 0 0 → is_whole xs ≡ true
+    → ((j : ℕ) → j < w → (d : Dimension) → Reads xs j (get_or ds j d)) → Dimension
+    → (dims_refusal xs ≡ None) × (map factors_of (take w kept) ≡ dims_from (get_or xs 0 0) (drop 1 xs))
+read_kept w xs ds kept same l e whole h d = rw same (read_all w xs ds l e whole h d)
 
 pub returns : goal.returns
 unfolding dims_of
@@ -63,4 +72,4 @@ returns c =
     let (four, size, count, rest, reads) = c.loop-i.invariant in
     let (whole, first, some, few, long) = c.in_ok-width.ensures in
     let past : c.in_ok-width.width ≤ length c.loop-i.yielded = part_end c.in_ok-width.width (length c.loop-i.yielded) c.args.row.now c.loop-i.i-iterator.iter.rest.now rest long (omega (arith, c.in-None.ensures.steps.0.1.0, size)) in
-    read_all c.in_ok-width.width c.args.row.now c.loop-i.each (omega (arith, few, four)) first whole (λ j h d. reads j (omega arith) d) c.plain-each.result
+    read_kept c.in_ok-width.width c.args.row.now c.loop-i.each _ (grind (arith, common_steps, four)) (omega (arith, few, four)) first whole (λ j h d. reads j (omega arith) d) c.plain-each.result

@@ -1,12 +1,18 @@
-use Rattle.std.proofs.Common.{◌≡◌, take, drop, get_or, sym, arith, rules}
+use Rattle.std.proofs.Common.{◌≡◌, ℕ, Some, None, Option, take, drop, get_or, sym, refl, subst, arith, rules}
+use Rattle.std.specs.Option.{option_or}
 use borrow.Author.Tests.{tests}
-use Rattle.hierarchy.specs.Facts.{same_fact}
+use Rattle.hierarchy.specs.Facts.{same_fact, copies}
 use Rattle.hierarchy.specs.Views.{entry_of}
-use Rattle.ledger.specs.Book.{in_order, entry_in, stride, start, nothing}
+use Rattle.ledger.specs.Book.{in_order, facts_in, entry_in, stride, start, nothing, Newest}
 use Rattle.ledger.proofs.Rows.{entry_at, order_length}
 use Rattle.ledger.proofs.Found.{last_found}
 use Rattle.ledger.proofs.Counts.{newest_found}
 use Rattle.ledger.proofs.book.Book.find.Goals as goal
+
+-- what stands in for nothing changes no search that found something
+or_nothing : (o : Option ℕ) → option_or o None ≡ o
+or_nothing None = refl
+or_nothing (Some i) = refl
 
 pub returns : goal.returns
 returns c =
@@ -17,4 +23,5 @@ returns c =
     let at = entry_at w k xs (omega (arith, c.count.ensures)) in
     let is : b ≡ same_fact e (entry_in w (take (stride w) (drop (start w k) xs))) = search (rules, tests) in
     rw at (sym is)) in
-    newest_found e (in_order w xs) c.count.result _ (omega (arith, order_length w xs, c.count.ensures)) h
+    let found = newest_found e (in_order w xs) c.count.result c.rfind.result (omega (arith, order_length w xs, c.count.ensures)) h in
+    subst (λ (o : Option ℕ). elim o as (λ (x : Option ℕ). Type 0) [ Some i ↦ Newest e (in_order w xs) i | None ↦ copies e (facts_in w xs) ≡ 0 ]) (search (rules, or_nothing)) found

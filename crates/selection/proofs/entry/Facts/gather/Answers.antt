@@ -35,7 +35,7 @@ put-requires c =
     let r = gather_turn c.of-shape.result.width ss xs c.begin.new.row c.loop-part.row c.args.self.count i
     c.one.result c.of-shape.ensures c.of-shape.result.most c.args.self.right c.args.self.few
     (rw c.of-shape.ensures (omega (arith, c.requires))) below c.in-Some.part.now more.0 (c.one.ensures.0 ∙ read.1) c.one.ensures.1 (c.one.ensures.2 ∙ read.2) c.loop-part.invariant.1 in
-    record { sound = r.0; fits = r.1 }
+    record { sound = r.0; fits = (omega (arith, r.1.0, c.one.ensures.1), omega (arith, r.1.1)) }
 
 pub loop-part-preserved : goal.loop-part-preserved
 loop-part-preserved c =

@@ -1,4 +1,4 @@
-use Rattle.std.proofs.Common.{◌≡◌, length, Some}
+use Rattle.std.proofs.Common.{◌≡◌, length, Some, rules}
 use Rattle.std.proofs.lemmas.Result.{err_from_is_err_and}
 use Rattle.std.proofs.lemmas.Bool.{lt-ltb}
 use Rattle.hierarchy.specs.Reading.{levels_in}
@@ -46,4 +46,4 @@ returns c =
     let m = read_are l.tables c.in_ok-levels.levels c.args.numbers.now there c.in_ok-levels.ensures.1 in
     let r = asked_shown l c.args.numbers.now (levels_of (wide l) c.in_ok-levels.levels) c.source-from.result (length c.args.out.now) c.args.book.now
     c.args.tables.now c.args.out.now c.roll.new.to there m c.source-from.ensures.1 (rw (← c.length_at.ensures) c.if-out-length_at.false) c.roll.ensures.after in
-    record { reply = rw c.groups_at.ensures r.0; row = r.1 }
+    record { reply = search (rules, r.0); row = r.1 }
