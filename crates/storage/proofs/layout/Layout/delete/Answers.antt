@@ -1,5 +1,4 @@
 use Rattle.std.proofs.Common.{refl}
-use Rattle.std.proofs.lemmas.Result.{err_from_is_err_and}
 use Rattle.hierarchy.proofs.Widths.{dims_few}
 use Rattle.storage.specs.Memory.{sides}
 use Rattle.storage.proofs.Deletes.{nothing_deleted, deleted_done}
@@ -14,11 +13,6 @@ returns-then-not-strike c =
     let struck = c.if-not-strike.ensures in
     let none = nothing_deleted c.args.self.now c.args.book.now c.args.tables.now c.requires c.args.numbers.now c.in_ok-fact.fact read.0 entry.0 struck.told in
     rw (struck.none refl) (does_refused c.requires none)
-
-pub returns-in_err-fact : goal.returns-in_err-fact
-returns-in_err-fact c =
-    let p = err_from_is_err_and c.from_residual.result c.from_residual.ensures.1 in
-    rw (p.1, p.2) (does_refused c.requires (rw c.in_err-fact.ensures))
 
 pub returns : goal.returns
 returns c =
