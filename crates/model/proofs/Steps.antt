@@ -8,25 +8,29 @@ use Rattle.hierarchy.specs.Facts.{copies}
 use Rattle.hierarchy.specs.Reading.{levels_refusal, levels_in, fact_refusal, entry_in}
 use Rattle.hierarchy.proofs.Theory.{fact_read}
 use Rattle.replies.specs.declared.Refusal.{Refusal}
-use Rattle.model.specs.House.{House, Limits, Deed, insert, delete, keep, drop_table, ask, refused, source, first_full, kept_at, table_length, or_else, refuse_if, not_kept, refusal, after, answered, step, told}
+use Rattle.model.specs.House.{House, Limits, Deed, insert, delete, keep, drop_table, ask, refused, source, first_full, kept_at, table_length, or_else, refuse_if, not_kept, refusal, after, answered, unless, or_refused, step, told}
 use Rattle.model.specs.Promises.{Whole}
 
--- a deed that is not refused is done, and one that is refused changes nothing
-pub step_done : (ss : Dims) (lim : Limits) (h : House) (d : Deed) → refusal ss lim h d ≡ None → step ss lim h d ≡ after ss h d
+-- a deed that is refused leaves the warehouse as it was and is told why; any other leaves what is after it and is told its answer
+pub step_unless_refused : (ss : Dims) (lim : Limits) (h : House) (d : Deed) → step ss lim h d ≡ unless (refusal ss lim h d) (after ss h d) h
 unfolding step
-step_done ss lim h d e = rw e
+step_unless_refused ss lim h d = refl
+
+pub told_or_refused : (ss : Dims) (lim : Limits) (h : House) (d : Deed) → told ss lim h d ≡ or_refused (refusal ss lim h d) (answered ss h d)
+unfolding told
+told_or_refused ss lim h d = refl
+
+pub step_done : (ss : Dims) (lim : Limits) (h : House) (d : Deed) → refusal ss lim h d ≡ None → step ss lim h d ≡ after ss h d
+step_done ss lim h d e = rw (step_unless_refused ss lim h d, e)
 
 pub step_refused : (ss : Dims) (lim : Limits) (h : House) (d : Deed) (r : Refusal) → refusal ss lim h d ≡ Some r → step ss lim h d ≡ h
-unfolding step
-step_refused ss lim h d r e = rw e
+step_refused ss lim h d r e = rw (step_unless_refused ss lim h d, e)
 
 pub told_done : (ss : Dims) (lim : Limits) (h : House) (d : Deed) → refusal ss lim h d ≡ None → told ss lim h d ≡ answered ss h d
-unfolding told
-told_done ss lim h d e = rw e
+told_done ss lim h d e = rw (told_or_refused ss lim h d, e)
 
 pub told_refused : (ss : Dims) (lim : Limits) (h : House) (d : Deed) (r : Refusal) → refusal ss lim h d ≡ Some r → told ss lim h d ≡ refused r
-unfolding told
-told_refused ss lim h d r e = rw e
+told_refused ss lim h d r e = rw (told_or_refused ss lim h d, e)
 
 -- a deed is refused or it is not
 pub cases_refusal : (o : Option Refusal) → (o ≡ None) ⊎ ((r : Refusal) × (o ≡ Some r))

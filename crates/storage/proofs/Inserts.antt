@@ -18,7 +18,7 @@ use Rattle.storage.specs.Memory.{sides, wide, limits, part_size, house_in, Memor
 use Rattle.tables.specs.Memory.{part, kept_in, tables_in, PutReady, WithFact, Each}
 use Rattle.storage.specs.declared.layout.Layout.{Layout}
 use Rattle.tables.proofs.Places.{tables_length, table_at, tables_mapped, part_long, within}
-use Rattle.storage.proofs.Rebuilt.{does_done, does_refused}
+use Rattle.storage.proofs.Rebuilt.{does_done}
 use Rattle.model.proofs.Sound.{full_none}
 use Rattle.model.proofs.Steps.{insert_done}
 use Rattle.ledger.specs.Book.{facts_in, in_order, Holds}
@@ -31,8 +31,7 @@ use Rattle.hierarchy.proofs.Fours.{whole_four}
 use Rattle.hierarchy.proofs.Theory.{fact_read}
 use Rattle.model.proofs.Laws.{insert_refusal, cells_bounded}
 use Rattle.replies.specs.declared.Refusal.TheVariants.{LedgerFull, TableFull}
-use Rattle.replies.specs.declared.Refusal.{Refusal}
-use Rattle.replies.specs.declared.Reply.TheVariants.{Done, Refused}
+use Rattle.replies.specs.declared.Reply.TheVariants.{Done}
 
 entry_is : (p q : Row) (a b : ℕ) → p ≡ q → a ≡ b → ◌≡◌ {A = Entry} (record { place = p; amount = a }) (record { place = q; amount = b })
 entry_is p q a b h k = rw (h, k)
@@ -152,8 +151,3 @@ module _ (l : Layout) (book tables : List ℕ) (m : Memory l book tables) (xs : 
         are = kept ∙ ap (λ (e : Entry). map (with_fact (sides l) e) (tables_in (wide l) (part_size l) tables)) is;
         sound = λ i k. (each.made i (rw each.head at k)).sound;
       })
-
--- an insertion that is refused leaves all as it was
-pub insert_refused : (l : Layout) (xs : Row) (x : Refusal) (book tables : List ℕ) → Memory l book tables
-    → refusal (sides l) (limits l) (house_in l book tables) (insert xs) ≡ Some x → Does l (insert xs) (Refused x) book tables book tables
-insert_refused l xs x book tables m e = does_refused m e

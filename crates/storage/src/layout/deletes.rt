@@ -13,7 +13,7 @@ use replies::Refusal;
 
 impl Layout {
     // One fact equal to this one, the newest, goes, if there is one.
-    #[tactic(auto, using(crate::proofs::Deletes::few_tables), unfolding(model::specs::House::told, model::specs::House::step))]
+    #[tactic(auto, using(crate::proofs::Deletes::few_tables, model::proofs::Steps::step_unless_refused, model::proofs::Steps::told_or_refused))]
     pub fn delete(
         &self,
         numbers: &[u64],

@@ -12,7 +12,7 @@ use replies::Refusal;
 
 impl Layout {
     // One fact more, if the book and the finest table have room for it: no other table then has more groups.
-    #[tactic(auto, using(crate::proofs::Inserts::book_free, crate::proofs::Inserts::few_kept, crate::proofs::Inserts::insert_refused))]
+    #[tactic(auto, using(crate::proofs::Inserts::book_free, crate::proofs::Inserts::few_kept, model::proofs::Steps::step_unless_refused, model::proofs::Steps::told_or_refused))]
     pub fn insert(
         &self,
         numbers: &[u64],
